@@ -1,0 +1,4 @@
+pub mod Floor
+pub mod Parts
+pub mod Laws
+pub mod Answer
