@@ -1,0 +1,4 @@
+pub mod Limits
+pub mod Quarters
+pub mod Spans
+pub mod Answer

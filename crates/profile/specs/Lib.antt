@@ -1,0 +1,3 @@
+pub mod Quarters
+pub mod Spans
+pub mod Answer
