@@ -1,0 +1,4 @@
+pub mod Cells
+pub mod Grossing
+pub mod Answers
+pub mod Tables
