@@ -1,0 +1,4 @@
+pub mod Adjusting
+pub mod Factors
+pub mod Layers
+pub mod Bounds
