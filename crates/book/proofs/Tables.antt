@@ -12,7 +12,7 @@ use Rattle.std.specs.declared.option.Option.{Option}
 use Rattle.std.specs.declared.option.Option.the-variants.{None}
 use Rattle.std.proofs.shelf.Lists.{getD-replicate, getD-past}
 use Rattle.std.proofs.shelf.Tests.{cases-eq, cases-lt, eq-eqb, ne-eqb, cond-true, cond-false, cond-both, and-from, and-left, and-right}
-use Rattle.book.specs.Tables.{at}
+use Rattle.book.specs.Tables.{at, cell}
 
 -- ---- a table without content
 
@@ -22,18 +22,15 @@ getD-all-same n i x =
     ⊎-elim (λ (h : i < n). getD-replicate n i x x h)
     (λ (h : n ≤ i). getD-past (replicate n x) i x (simp length-replicate h)) (cases-lt i n)
 
--- a table of n rows with nothing in it
-abbrev pub empty-rows : (X : Type 0) → ℕ → List (List (Option X))
-empty-rows X n = replicate n (replicate 100 None)
-
-pub empty-at : (X : Type 0) (n k q : ℕ) → at (empty-rows X n) k q ≡ None
-empty-at X n k q =
+-- a table of n rows of m with the same in every place
+pub filled-cell : {X : Type 0} (d : X) (n m k q : ℕ) → cell d (replicate n (replicate m d)) k q ≡ d
+filled-cell {X} d n m k q =
     ⊎-elim
-    (λ (h : k < n). ap (λ (xs : List (Option X)). getD xs q None) (getD-replicate n k (replicate 100 None) [] h) ∙ getD-all-same 100 q None)
-    (λ (h : n ≤ k). ap (λ (xs : List (Option X)). getD xs q None) (getD-past (empty-rows X n) k [] (simp length-replicate h))) (cases-lt k n)
+    (λ (h : k < n). ap (λ (xs : List X). getD xs q d) (getD-replicate n k (replicate m d) [] h) ∙ getD-all-same m q d)
+    (λ (h : n ≤ k). ap (λ (xs : List X). getD xs q d) (getD-past (replicate n (replicate m d)) k [] (simp length-replicate h))) (cases-lt k n)
 
-pub empty-length : (X : Type 0) (n k : ℕ) → k < n → length (getD (empty-rows X n) k []) ≡ 100
-empty-length X n k h = ap (λ (xs : List (Option X)). length xs) (getD-replicate n k (replicate 100 None) [] h) ∙ length-replicate {A = Option X} 100 None
+pub filled-length : {X : Type 0} (d : X) (n m k : ℕ) → k < n → length (getD (replicate n (replicate m d)) k []) ≡ m
+filled-length {X} d n m k h = ap (λ (xs : List X). length xs) (getD-replicate n k (replicate m d) [] h) ∙ length-replicate m d
 
 module _ {X : Type 0} where
   -- ---- past the ends
@@ -44,37 +41,37 @@ module _ {X : Type 0} where
   past-rows rows k q h = ap (λ (xs : List (Option X)). getD xs q None) (getD-past rows k [] h)
 
 -- ---- one place given another content
-module _ {X : Type 0} (rows : List (List (Option X))) (k q : ℕ) (f : Option X) (hk : k < length rows) (hq : q < length (getD rows k [])) where
-  abbrev pub put-rows : List (List (Option X))
+module _ {X : Type 0} (d : X) (rows : List (List X)) (k q : ℕ) (f : X) (hk : k < length rows) (hq : q < length (getD rows k [])) where
+  abbrev pub put-rows : List (List X)
   put-rows = set rows k (set (getD rows k []) q f)
 
   pub put-row-length : (j : ℕ) → length (getD put-rows j []) ≡ length (getD rows j [])
   put-row-length j =
       ⊎-elim
       (λ (e : j ≡ k). rw (e, getD-set-same rows k (set (getD rows k []) q f) [] hk) (length-set (getD rows k []) q f))
-      (λ (ne : j ≡ k → ⊥). ap (λ (xs : List (Option X)). length xs) (getD-set-other rows k j (set (getD rows k []) q f) [] ne)) (cases-eq j k)
+      (λ (ne : j ≡ k → ⊥). ap (λ (xs : List X). length xs) (getD-set-other rows k j (set (getD rows k []) q f) [] ne)) (cases-eq j k)
 
-  pub put-at : (j p : ℕ) → at put-rows j p ≡ cond (eqb j k && eqb p q) f (at rows j p)
-  put-at j p =
+  pub put-cell : (j p : ℕ) → cell d put-rows j p ≡ cond (eqb j k && eqb p q) f (cell d rows j p)
+  put-cell j p =
       ⊎-elim
       (λ (e : j ≡ k).
       let here : getD put-rows j [] ≡ set (getD rows k []) q f = ap (λ (i : ℕ). getD put-rows i []) e ∙ getD-set-same rows k (set (getD rows k []) q f) [] hk in
       ⊎-elim
-      (λ (d : p ≡ q).
-      ap (λ (xs : List (Option X)). getD xs p None) here ∙ ap (λ (i : ℕ). getD (set (getD rows k []) q f) i None) d
-      ∙ getD-set-same (getD rows k []) q f None hq
-      ∙ sym (cond-true (eqb j k && eqb p q) f (at rows j p) (and-from (eqb j k) (eqb p q) (eq-eqb j k e) (eq-eqb p q d))))
+      (λ (same : p ≡ q).
+      ap (λ (xs : List X). getD xs p d) here ∙ ap (λ (i : ℕ). getD (set (getD rows k []) q f) i d) same
+      ∙ getD-set-same (getD rows k []) q f d hq
+      ∙ sym (cond-true (eqb j k && eqb p q) f (cell d rows j p) (and-from (eqb j k) (eqb p q) (eq-eqb j k e) (eq-eqb p q same))))
       (λ (nd : p ≡ q → ⊥).
-      ap (λ (xs : List (Option X)). getD xs p None) here ∙ getD-set-other (getD rows k []) q p f None nd
-      ∙ ap (λ (i : ℕ). at rows i p) (sym e)
-      ∙ sym (cond-false (eqb j k && eqb p q) f (at rows j p) (and-right (eqb j k) (eqb p q) (ne-eqb p q nd))))
+      ap (λ (xs : List X). getD xs p d) here ∙ getD-set-other (getD rows k []) q p f d nd
+      ∙ ap (λ (i : ℕ). cell d rows i p) (sym e)
+      ∙ sym (cond-false (eqb j k && eqb p q) f (cell d rows j p) (and-right (eqb j k) (eqb p q) (ne-eqb p q nd))))
       (cases-eq p q))
       (λ (ne : j ≡ k → ⊥).
-      ap (λ (xs : List (Option X)). getD xs p None) (getD-set-other rows k j (set (getD rows k []) q f) [] ne)
-      ∙ sym (cond-false (eqb j k && eqb p q) f (at rows j p) (and-left (eqb j k) (eqb p q) (ne-eqb j k ne))))
+      ap (λ (xs : List X). getD xs p d) (getD-set-other rows k j (set (getD rows k []) q f) [] ne)
+      ∙ sym (cond-false (eqb j k && eqb p q) f (cell d rows j p) (and-left (eqb j k) (eqb p q) (ne-eqb j k ne))))
       (cases-eq j k)
 
   -- what holds of every content still does
-  pub put-keeps : (P : Option X → Type 0) → P f → ((j p : ℕ) → P (at rows j p)) → (j p : ℕ) → P (at put-rows j p)
+  pub put-keeps : (P : X → Type 0) → P f → ((j p : ℕ) → P (cell d rows j p)) → (j p : ℕ) → P (cell d put-rows j p)
   put-keeps P hf all j p =
-      subst P (sym (put-at j p)) (cond-both (eqb j k && eqb p q) f (at rows j p) P (λ _. hf) (λ _. all j p))
+      subst P (sym (put-cell j p)) (cond-both (eqb j k && eqb p q) f (cell d rows j p) P (λ _. hf) (λ _. all j p))

@@ -7,9 +7,13 @@ use lib.ListN.{getD}
 use Rattle.std.specs.declared.option.Option.{Option}
 use Rattle.std.specs.declared.option.Option.the-variants.{None}
 
+-- a list of lists read by its two places, with a value for what is past its ends
+abbrev pub cell : {X : Type 0} → X → List (List X) → ℕ → ℕ → X
+cell d rows k q = getD (getD rows k []) q d
+
 -- a table read by row and quarter hour: nothing past its ends
 abbrev pub at : {X : Type 0} → List (List (Option X)) → ℕ → ℕ → Option X
-at rows k q = getD (getD rows k []) q None
+at rows k q = cell None rows k q
 
 -- nothing in any place
 abbrev pub blank : {X : Type 0} → ℕ → ℕ → Option X

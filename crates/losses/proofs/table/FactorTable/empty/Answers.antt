@@ -1,15 +1,16 @@
 use mathlib.Core.Path.{fun-ext, sym, subst}
-use Prim.Native.Nat.{ℕ, zero-le}
+use Prim.Native.Nat.{zero-le}
 use lib.ListN.{length-replicate}
-use Rattle.book.proofs.Tables.{empty-at, empty-length}
+use Rattle.std.specs.declared.option.Option.the-variants.{None}
+use Rattle.book.proofs.Tables.{filled-cell, filled-length}
 use Rattle.losses.specs.Factors.{Lawful}
 use Rattle.losses.proofs.table.FactorTable.empty.Needs as need
 
 pub ghost-result : need.ghost-result
 ghost-result g c = (
   length-replicate (g .ROWS) _,
-  (λ k h. empty-length ℕ (g .ROWS) k h, (λ k q. subst Lawful (sym (empty-at ℕ (g .ROWS) k q)) zero-le, tt)),
+  (λ k h. filled-length None (g .ROWS) 100 k h, (λ k q. subst Lawful (sym (filled-cell None (g .ROWS) 100 k q)) zero-le, tt)),
 )
 
 pub returns : need.returns
-returns g c = fun-ext (λ k. fun-ext (λ q. empty-at ℕ (g .ROWS) k q))
+returns g c = fun-ext (λ k. fun-ext (λ q. filled-cell None (g .ROWS) 100 k q))
