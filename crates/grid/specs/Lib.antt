@@ -1,0 +1,4 @@
+pub mod Marks
+pub mod Held
+pub mod Grids
+pub mod Bounds
