@@ -1,0 +1,11 @@
+// Known figures, run through the layers of the box: one module of tests for each layer.
+#[cfg(test)]
+mod answers;
+#[cfg(test)]
+mod profiles;
+#[cfg(test)]
+mod refusals;
+#[cfg(test)]
+mod rolls;
+#[cfg(test)]
+mod splits;

@@ -1,0 +1,2 @@
+pub mod Peaks
+pub mod Spans
