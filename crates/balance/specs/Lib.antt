@@ -1,0 +1,9 @@
+pub mod Totals
+pub mod Balance
+pub mod Quarter
+pub mod Figures
+pub mod Laws
+pub mod Gathering
+pub mod Sheets
+pub mod Settling
+pub mod Questions
