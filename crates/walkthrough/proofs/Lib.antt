@@ -1,2 +1,3 @@
 pub mod Peaks
+pub mod Piles
 pub mod Spans

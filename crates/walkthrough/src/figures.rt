@@ -101,6 +101,12 @@ impl fmt::Display for Group as GroupDisplay {
 #[derive(Clone, Copy)]
 pub struct Grouped(pub u64);
 
+pub fn parted(n: u32) -> Grouped
+    ensures { λ r. ⌜ r .0 ≡ n ⌝ }
+{
+    Grouped(u64::from(n))
+}
+
 pub impl fmt::Display for Grouped as GroupedDisplay {
     ghost shown = { λ g. Some (grouped (g .0)) };
 

@@ -2,9 +2,17 @@
 // last figure.
 mod figures;
 mod month;
+mod pile;
+mod quarter_hour;
 
 use std::io;
 
 fn main(rt: LibcRuntime) -> io::Result<()> {
-    month::show(&rt)
+    month::show(&rt)?;
+    println!(rt, "")?;
+    println!(rt, "")?;
+    pile::show(&rt)?;
+    println!(rt, "")?;
+    println!(rt, "")?;
+    quarter_hour::show(&rt)
 }

@@ -1,10 +1,10 @@
 // The monthly reading in words.
-ghost use mathlib.Core.Path.{_≡_};
 use crate::figures;
 use crate::figures::ClockTimeDisplay;
 use crate::figures::Grouped;
 use crate::figures::GroupedDisplay;
 use crate::figures::QuarterHours;
+use crate::figures::parted;
 use crate::month::span;
 use profile::ProfiledReading;
 use refusal::Refusal;
@@ -22,12 +22,6 @@ pub struct Shown {
     pub readings: QuarterHours,
     /// In Wh.
     pub all_days: u64,
-}
-
-fn parted(n: u32) -> Grouped
-    ensures { λ r. ⌜ r .0 ≡ n ⌝ }
-{
-    Grouped(u64::from(n))
 }
 
 pub fn entry(rt: &LibcRuntime, shown: &Shown) -> io::Result<()> {
