@@ -79,6 +79,15 @@ impl Draft {
         &self.roll
     }
 
+    /// The day's length and its roll, which takes no more entries of a draft.
+    pub fn into_parts(self) -> (DayLength, Roll)
+        ensures length { λ r. ⌜ r .0 ≡ dayOf self ⌝ }
+        ensures roll { λ r. ⌜ r .1 ≡ rollOf self ⌝ }
+    {
+        let Draft { length, roll } = self;
+        (length, roll)
+    }
+
     /// Enters a segment's row under its number. A number that has a row keeps it.
     pub fn segment(&mut self, number: u8, row: &Row) -> Result<(), Refusal>
         ensures answer { λ r. ⌜ r ≡ segmentEntry (rowsOf (rollOf (now (self .entry)))) number (now (row .entry)) ⌝ }

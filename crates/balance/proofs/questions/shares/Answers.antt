@@ -33,11 +33,11 @@ returns-in-Ok g c =
     let gen = c .in-Ok .balance .generation in
     let whole : gen ≡ rtamltot y = got .1 .generation ∙ sym (got .2 .pairs-add-up) in
     let refused : orElse m (cond (ltZ (pos 0) gen) None (Some NoTotal)) ≡ orElse (lateAt q) (orElse m (refusalOfShares x)) =
-        ap (λ (z : ℤ). orElse m (cond (ltZ (pos 0) z) None (Some NoTotal))) whole ∙ sym (none-beside (lateAt q) m (refusalOfQuarter x) (unshared y) (got .0)) in
+    ap (λ (z : ℤ). orElse m (cond (ltZ (pos 0) z) None (Some NoTotal))) whole ∙ sym (none-beside (lateAt q) m (refusalOfQuarter x) (unshared y) (got .0)) in
     let filled : c .shares .last .list ≡ cond (isOk (c .shares .result)) (shares y) list =
-        read .after
-        ∙ ap (λ (z : ℤ). cond (isOk (c .shares .result)) (partsOf (pos 1000000000) (natAbs z) 0 (c .in-Ok .balance .«qse_loads»)) list) whole
-        ∙ ap (λ (ws : List ℤ). cond (isOk (c .shares .result)) (partsOf (pos 1000000000) (natAbs (rtamltot y)) 0 ws) list) (got .1 .qse-loads) in
+    read .after
+    ∙ ap (λ (z : ℤ). cond (isOk (c .shares .result)) (partsOf (pos 1000000000) (natAbs z) 0 (c .in-Ok .balance .«qse_loads»)) list) whole
+    ∙ ap (λ (ws : List ℤ). cond (isOk (c .shares .result)) (partsOf (pos 1000000000) (natAbs (rtamltot y)) 0 ws) list) (got .1 .qse-loads) in
     record {
       answer = read .answer ∙ ap (λ (o : Option Refusal). okUnless o tt) refused;
       after = filled;
