@@ -1,0 +1,4 @@
+pub mod Slate
+pub mod Entries
+pub mod Questions
+pub mod Holding
