@@ -19,7 +19,7 @@ use Rattle.balance.specs.Totals.{total, or_else, first_of}
 use Rattle.balance.proofs.Balanced.{balanced}
 use Rattle.balance.proofs.Settling.{carried_when}
 
-pub unlisted_load : (row : Option Row) (g : Gross) → is_some row ≡ false → load_in row g ≡ 0
+unlisted_load : (row : Option Row) (g : Gross) → is_some row ≡ false → load_in row g ≡ 0
 unlisted_load None g e = refl
 unlisted_load (Some row) g e = absurd (true≢false e)
 
@@ -59,12 +59,12 @@ module _ (x : Quarter) (many : length x.rows ≡ 64) where
         ∙ ap (λ (o : Option Refusal). or_else o (stranded (sheet_of x))) figures
 
     settled_answers : ((s : ℕ) → ranged (get_or x.rows s None) ≡ true) → (r : Result Balance Refusal) → Settled (sheet_of x) r → AnsweredAs r q x
-    settled_answers in_table (Err e) h = refusal_is ∙ h
-    settled_answers in_table (Ok b) h = (
+    settled_answers in-range (Err e) h = refusal_is ∙ h
+    settled_answers in-range (Ok b) h = (
       refusal_is ∙ h.0,
       h.1,
-      balanced (sheet_of x) (carried_when (ufe (sheet_of x)) (weighted (sheet_of x)) h.0) in_table (λ s e. unlisted_load (get_or x.rows s None) (x.gross s) e),
+      balanced (sheet_of x) (carried_when (ufe (sheet_of x)) (weighted (sheet_of x)) h.0) in-range (λ s e. unlisted_load (get_or x.rows s None) (x.gross s) e),
     )
 
     pub answers : ((s : ℕ) → ranged (get_or x.rows s None) ≡ true) → (ls : List LoadedRow) (g : ℤ) → length ls ≡ 64 → LoadedUpTo 64 ls x.rows x.gross → g ≡ total (figure_of x.sites x.figure) 16 → (r : Result Balance Refusal) → Settled (sheet_in ls g) r → AnsweredAs r q x
-    answers in_table ls g n loaded e r h = settled_answers in_table r (subst (λ (y : Sheet). Settled y r) (same_sheet ls g n loaded e) h)
+    answers in-range ls g n loaded e r h = settled_answers in-range r (subst (λ (y : Sheet). Settled y r) (same_sheet ls g n loaded e) h)

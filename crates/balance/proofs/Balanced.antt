@@ -42,7 +42,7 @@ by_point row v q h =
     ∙ total_cond (eqb q row.qse) (λ p. cond (eqb p row.point) v (pos 0)) 8
     ∙ ap (λ (z : ℤ). cond (eqb q row.qse) z (pos 0)) (total_pick row.point v 8 (omega arith))
 
-pub pair_once : (row : Option Row) (v : ℤ) → ranged row ≡ true → (is_some row ≡ false → v ≡ pos 0) → total (λ q. total (λ p. cond (belongs row q p) v (pos 0)) 8) 16 ≡ v
+pair_once : (row : Option Row) (v : ℤ) → ranged row ≡ true → (is_some row ≡ false → v ≡ pos 0) → total (λ q. total (λ p. cond (belongs row q p) v (pos 0)) 8) 16 ≡ v
 pair_once None v h none = total_zero (λ q. total (λ p. pos 0) 8) 16 (λ q _. total_none 8) ∙ sym (none refl)
 pair_once (Some row) v h none =
     let qse = leb-true row.qse 15 (and_parts (leb row.qse 15) _ h).0 in
@@ -99,7 +99,7 @@ module _ (y : Sheet) (carried : weighted y ≡ 0 → ufe y ≡ pos 0) where
       ∙ ap (λ (xs : List ℤ). get_or xs s (pos 0)) (parts_of_none (weighted y) 0 (weights y)) ∙ slice_index_or_all_same (length (weights y)) s (pos 0) in
       omega (arith, ints, zero)
 
-  module _ (in_table : (s : ℕ) → ranged (y.row s) ≡ true) (unlisted : (s : ℕ) → is_some (y.row s) ≡ false → y.load s ≡ 0) where
+  module _ (in-range : (s : ℕ) → ranged (y.row s) ≡ true) (unlisted : (s : ℕ) → is_some (y.row s) ≡ false → y.load s ≡ 0) where
     -- who is not on the roll has no load, no weight and so no part
     nobody : (s : ℕ) → s < 64 → is_some (y.row s) ≡ false → adjusted y s ≡ pos 0
     unfolding adjusted
@@ -124,7 +124,7 @@ module _ (y : Sheet) (carried : weighted y ≡ 0 → ufe y ≡ pos 0) where
     pairs =
         total_same (qse_load y) (λ q. total (λ s. total (λ p. term s q p) 8) 64) 16 (λ q _. qse_by_segments q)
         ∙ total_swap (λ q s. total (λ p. term s q p) 8) 16 64
-        ∙ total_same (λ s. total (λ q. total (λ p. term s q p) 8) 16) (adjusted y) 64 (λ s h. pair_once (y.row s) (adjusted y s) (in_table s) (nobody s h))
+        ∙ total_same (λ s. total (λ q. total (λ p. term s q p) 8) 16) (adjusted y) 64 (λ s h. pair_once (y.row s) (adjusted y s) (in-range s) (nobody s h))
         ∙ loads
 
     points : total (λ point. total (λ qse. rtaml y qse point) 16) 8 ≡ y.generation
@@ -211,9 +211,9 @@ module _ (y : Sheet) (carried : weighted y ≡ 0 → ufe y ≡ pos 0) where
 
     pub qse_within : ((s : ℕ) → ranged (y.row s) ≡ true) → (qse : ℕ) → nat_abs (qse_load y qse) ≤ 672000000
     unfolding qse_load rtaml
-    qse_within in_table qse =
+    qse_within in-range qse =
         let e = total_swap (λ p s. cond (belongs (y.row s) qse p) (adjusted y s) (pos 0)) 8 64
-        ∙ total_same _ (λ s. cond (with_qse (y.row s)) (adjusted y s) (pos 0)) 64 (λ s _. own (y.row s) (adjusted y s) (in_table s)) in
+        ∙ total_same _ (λ s. cond (with_qse (y.row s)) (adjusted y s) (pos 0)) 64 (λ s _. own (y.row s) (adjusted y s) (in-range s)) in
         subst (λ (z : ℤ). nat_abs z ≤ 672000000) (sym e) (some_within (λ s. with_qse (y.row s)))
       where
         with_qse : Option Row → Bool

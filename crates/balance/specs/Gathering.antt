@@ -6,10 +6,10 @@ use Rattle.roll.specs.declared.row.Row.{Row}
 use Rattle.roll.specs.Entries.{rows_of, sites_of}
 use Rattle.book.specs.Cells.{Standing}
 use Rattle.book.specs.Grossing.{Gross, Grossing}
-use Rattle.figures.specs.declared.table.Figures.{Figures}
+use Rattle.balance.specs.declared.figures.Figures.{Figures}
 use Rattle.balance.specs.declared.row.LoadedRow.{LoadedRow}
 use Rattle.balance.specs.Quarter.{Quarter, load_in, fault_in, figure_in, site_fault, site_fault_in, segment_fault, figure_of}
-use Rattle.figures.specs.Figures.{figures_of}
+use Rattle.balance.specs.Figures.{figures_of}
 use Rattle.balance.specs.Totals.{first_of, total}
 
 -- what stands in a book for a quarter hour, grossed

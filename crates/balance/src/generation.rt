@@ -2,11 +2,11 @@
 ghost use Rattle.std.specs.Prelude.{◌≡◌, is_some};
 ghost use Rattle.roll.specs.Entries.{rows_of, sites_of};
 ghost use Rattle.balance.specs.Quarter.{somebody};
-ghost use Rattle.figures.specs.Figures.{figures_of};
+ghost use Rattle.balance.specs.Figures.{figures_of};
 ghost use Rattle.balance.specs.Gathering.{GeneratedAs, SiteAs};
 ghost use Rattle.balance.specs.Totals.{first_of};
 
-use figures::Figures;
+use crate::figures::Figures;
 use refusal::Refusal;
 use roll::Roll;
 

@@ -1,4 +1,5 @@
 // The balance of a quarter hour: what was generated, what was metered, and who carries the difference.
+mod figures;
 mod generation;
 mod questions;
 mod row;

@@ -9,12 +9,12 @@ ghost use Rattle.balance.specs.Quarter.{sheet_of, refusal_of_quarter, refusal_of
 ghost use Rattle.balance.specs.Questions.{AnsweredAs, ok_unless, late_at, misfit, nowhere};
 ghost use Rattle.balance.specs.Totals.{or_else};
 
+use crate::figures::Figures;
 use crate::generation::{generation_of, has_segment};
 use crate::row::gathering::gather;
 use crate::settled::Balance;
 use crate::settled::settling::settle;
 use book::LoadBook;
-use figures::Figures;
 use refusal::Refusal;
 use roll::Roll;
 
@@ -95,7 +95,7 @@ pub fn rtaml<B: LoadBook>(
 }
 
 /// What was generated in a quarter hour, and what of it is not accounted for, in Wh.
-#[derive(Clone, Copy)]
+#[derive(Clone, Copy, PartialEq, Eq, Debug)]
 pub struct Ufe {
     pub generation: i64,
     pub ufe: i64,

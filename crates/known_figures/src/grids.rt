@@ -1,59 +1,42 @@
 // Grids over lists of every length, and a full one.
-use crate::books::{Call, EMPTY, Step, check_ranges, run};
+use crate::answers::number_of;
+use crate::books::{check_empty, check_ranges};
 use book::LoadBook;
 use grid::Grid;
 use std::process::Abort;
 use std::test::Fail;
 
-/// The length of a list, and the calls of a grid over it.
-const LENGTHS: [(usize, [Step; 6]); 4] = [
-    (0, NO_PLACE),
-    (6_399, NO_PLACE),
-    (6_400, ALL_PLACES),
-    (6_401, NO_PLACE),
-];
-
-const NO_PLACE: [Step; 6] = [
-    (Call::Free, Ok(Some(0))),
-    (Call::Post(64, 0, 1), Err([1, 0, 0])),
-    (Call::Post(0, 0, 1), Err([15, 0, 0])),
-    (Call::Free, Ok(Some(0))),
-    (Call::Clear, Ok(None)),
-    (Call::Free, Ok(Some(0))),
-];
-
-const ALL_PLACES: [Step; 6] = [
-    (Call::Free, Ok(Some(6_400))),
-    (Call::Post(64, 0, 1), Err([1, 0, 0])),
-    (Call::Post(0, 0, 1), Ok(None)),
-    (Call::Free, Ok(Some(6_399))),
-    (Call::Clear, Ok(None)),
-    (Call::Free, Ok(Some(6_400))),
-];
-
-/// Where every cell has a reading.
-const FULL: [Step; 5] = [
-    (Call::Free, Ok(Some(0))),
-    (Call::Post(63, 99, 1), Ok(Some(6_399))),
-    (Call::Withdraw(63, 99), Ok(Some(1))),
-    (Call::Free, Ok(Some(1))),
-    (Call::Post(63, 99, 6_399), Ok(None)),
+/// The length of a list, the places of a grid over it, the answer to a posting.
+const LENGTHS: [(usize, u32, u8); 4] = [
+    (0, 0, 15),
+    (6_399, 0, 15),
+    (6_400, 6_400, 0),
+    (6_401, 0, 15),
 ];
 
 #[test]
-fn lists_of_every_length(rt: HostRuntime) {
-    for (length, steps) in LENGTHS {
+fn lists_of_every_length(rt: HostRuntime) -> Result<(), Fail> {
+    for (length, places, expected) in LENGTHS {
         let mut list = [7u32; 6_401];
         assert!(rt; length <= 6_401);
         let mut grid = Grid::new(&mut list[0..length]);
-        run(&rt, &mut grid, &steps);
-        run(&rt, &mut grid, &EMPTY);
+        assert_eq!(rt; grid.free(), places);
+        assert_eq!(rt; number_of(grid.post(64, 0, 1)), 1);
+        assert_eq!(rt; number_of(grid.post(0, 0, 1)), expected);
+        assert_eq!(rt; grid.free(), places.saturating_sub(1));
+        grid.clear();
+        assert_eq!(rt; grid.free(), places);
+        check_empty(&rt, &mut grid)?;
     }
+    Ok(())
 }
 
 #[test]
-fn ranges(rt: HostRuntime) {
-    check_ranges(&rt, &mut Grid::new(&mut [7u32; 6_400]), 0);
+fn ranges(rt: HostRuntime) -> Result<(), Fail> {
+    let mut list = [7u32; 6_400];
+    let mut grid = Grid::new(&mut list);
+    check_empty(&rt, &mut grid)?;
+    check_ranges(&rt, &mut grid)
 }
 
 /// Posts a reading of its own for every cell.
@@ -77,14 +60,16 @@ fn check_filled<B: LoadBook>(rt: &impl Abort, book: &B) -> Result<(), Fail> {
     Ok(())
 }
 
-fn check_full<B: LoadBook>(rt: &impl Abort, book: &mut B) -> Result<(), Fail> {
-    fill(rt, book)?;
-    check_filled(rt, book)?;
-    run(rt, book, &FULL);
-    check_filled(rt, book)
-}
-
 #[test]
 fn full(rt: HostRuntime) -> Result<(), Fail> {
-    check_full(&rt, &mut Grid::new(&mut [7u32; 6_400]))
+    let mut list = [7u32; 6_400];
+    let mut grid = Grid::new(&mut list);
+    fill(&rt, &mut grid)?;
+    check_filled(&rt, &grid)?;
+    assert_eq!(rt; grid.free(), 0);
+    assert_eq!(rt; grid.post(63, 99, 1)?, Some(6_399));
+    assert_eq!(rt; grid.withdraw(63, 99)?, 1);
+    assert_eq!(rt; grid.free(), 1);
+    assert_eq!(rt; grid.post(63, 99, 6_399)?, None);
+    check_filled(&rt, &grid)
 }

@@ -2,8 +2,6 @@
 #[cfg(test)]
 mod answers;
 #[cfg(test)]
-mod balances;
-#[cfg(test)]
 mod books;
 #[cfg(test)]
 mod factors;

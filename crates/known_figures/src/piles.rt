@@ -1,7 +1,7 @@
 // Loads that come up through piles of layers. Each function lays one or two layers over the book that
 // it is given, and hands the pile on. Factors are given for quarter hour 0.
-use crate::answers::number_of;
-use crate::books::{Call, LAST_PLACE, Step, check_ranges, run};
+use crate::answers::{number_of, numbers_of};
+use crate::books::{check_last_place, check_ranges};
 use book::LoadBook;
 use losses::{Distribution, Transmission};
 use refusal::Refusal;
@@ -86,11 +86,8 @@ fn check_load<B: LoadBook + Drop>(
     reading: u32,
     expected: u32,
 ) -> Result<(), Fail> {
-    let steps = [
-        (Call::Post(0, 0, reading), Ok(None)),
-        (Call::Load(0, 0), Ok(Some(expected))),
-    ];
-    run(rt, &mut pile, &steps);
+    pile.post(0, 0, reading)?;
+    assert_eq!(rt; pile.load(0, 0)?, expected);
     Ok(())
 }
 
@@ -132,20 +129,16 @@ fn two_layers_in_every_order(rt: HostRuntime) -> Result<(), Fail> {
     Ok(())
 }
 
-/// A fault for segment 5 that came up through so many layers.
-fn check_fault<B: LoadBook>(rt: &impl Abort, pile: &mut B, number: u8, height: u8) {
-    run(rt, pile, &[(Call::Load(5, 0), Err([number, 5, height]))]);
-}
-
 /// A fault for segment 5 that came up through one layer, and the same fault through one more.
-fn check_higher<B: LoadBook + Drop>(rt: &impl Abort, mut pile: B, number: u8) {
-    check_fault(rt, &mut pile, number, 1);
-    check_fault(rt, &mut Distribution::over(pile), number, 2);
+fn check_higher<B: LoadBook + Drop>(rt: &impl Abort, pile: B, number: u8) {
+    assert_eq!(rt; numbers_of(pile.load(5, 0)), [number, 5, 1]);
+    let higher = Distribution::over(pile);
+    assert_eq!(rt; numbers_of(higher.load(5, 0)), [number, 5, 2]);
 }
 
 /// A fault for segment 5 that arises at the top, and goes up through layers without factors.
-fn check_rising<B: LoadBook + Drop>(rt: &impl Abort, mut pile: B, number: u8) {
-    check_fault(rt, &mut pile, number, 0);
+fn check_rising<B: LoadBook + Drop>(rt: &impl Abort, pile: B, number: u8) {
+    assert_eq!(rt; numbers_of(pile.load(5, 0)), [number, 5, 0]);
     check_higher(rt, Transmission::over(pile), number);
 }
 
@@ -179,32 +172,27 @@ fn heights(rt: HostRuntime) -> Result<(), Fail> {
     check_too_large(&rt, SlipBook::new(&mut [NO_SLIP]))
 }
 
-const POSTED_BELOW: [Step; 3] = [
-    (Call::Read(5, 0), Ok(Some(7))),
-    (Call::Free, Ok(Some(0))),
-    (Call::Clear, Ok(None)),
-];
-
-/// Five layers over a book of one place, which has a reading for segment 5.
-fn check_calls<B: LoadBook>(rt: &impl Abort, pile: &mut B) {
-    run(rt, pile, &POSTED_BELOW);
-    check_ranges(rt, pile, 5);
-    run(rt, pile, &LAST_PLACE);
+/// A pile over a book of one place, which has a reading for segment 5.
+fn check_calls<B: LoadBook>(rt: &impl Abort, pile: &mut B) -> Result<(), Fail> {
+    assert_eq!(rt; pile.read(5, 0)?, Some(7));
+    assert_eq!(rt; pile.free(), 0);
+    pile.clear();
+    check_ranges(rt, pile)?;
+    check_last_place(rt, pile)
 }
 
-fn check_two_more<B: LoadBook + Drop>(rt: &impl Abort, pile: B) {
-    check_calls(rt, &mut Transmission::over(Distribution::over(pile)));
+fn check_two_more<B: LoadBook + Drop>(rt: &impl Abort, pile: B) -> Result<(), Fail> {
+    check_calls(rt, &mut Transmission::over(Distribution::over(pile)))
 }
 
-fn check_four_more<B: LoadBook + Drop>(rt: &impl Abort, pile: B) {
-    check_two_more(rt, Transmission::over(Distribution::over(pile)));
+fn check_four_more<B: LoadBook + Drop>(rt: &impl Abort, pile: B) -> Result<(), Fail> {
+    check_two_more(rt, Transmission::over(Distribution::over(pile)))
 }
 
 /// The reading was posted before the first of five layers was laid over the book.
 fn check_five_layers<B: LoadBook + Drop>(rt: &impl Abort, mut book: B) -> Result<(), Fail> {
     book.post(5, 0, 7)?;
-    check_four_more(rt, Distribution::over(book));
-    Ok(())
+    check_four_more(rt, Distribution::over(book))
 }
 
 #[test]
@@ -225,23 +213,16 @@ fn check_last_factor<B: LoadBook + Drop>(
 }
 
 /// A load of code T passes as it is, without a factor too; one of code A does not.
-fn check_codes<B: LoadBook + Drop>(rt: &impl Abort, mut book: B, roll: &Roll) {
-    run(rt, &mut book, &TWO_READINGS);
+fn check_codes<B: LoadBook + Drop>(rt: &impl Abort, mut book: B, roll: &Roll) -> Result<(), Fail> {
+    book.post(0, 1, 1_000)?;
+    book.post(2, 1, 3_000)?;
     let mut layer = Distribution::over(book);
-    run(rt, &mut layer, &[(Call::Load(2, 1), Err([19, 2, 0]))]);
+    assert_eq!(rt; numbers_of(layer.load(2, 1)), [19, 2, 0]);
     layer.take_over_codes(roll);
-    run(rt, &mut layer, &TWO_LOADS);
+    assert_eq!(rt; numbers_of(layer.load(0, 1)), [19, 0, 0]);
+    assert_eq!(rt; layer.load(2, 1)?, 3_000);
+    Ok(())
 }
-
-const TWO_READINGS: [Step; 2] = [
-    (Call::Post(0, 1, 1_000), Ok(None)),
-    (Call::Post(2, 1, 3_000), Ok(None)),
-];
-
-const TWO_LOADS: [Step; 2] = [
-    (Call::Load(0, 1), Err([19, 0, 0])),
-    (Call::Load(2, 1), Ok(Some(3_000))),
-];
 
 /// A segment that comes onto the roll after the codes were taken over.
 fn check_late_code<B: LoadBook + Drop>(
@@ -252,9 +233,9 @@ fn check_late_code<B: LoadBook + Drop>(
     book.post(1, 0, 10)?;
     let mut layer = distribution(book, draft.roll(), 50_000)?;
     draft.segment(1, &row(b'A'))?;
-    run(rt, &mut layer, &[(Call::Load(1, 0), Err([19, 1, 0]))]);
+    assert_eq!(rt; numbers_of(layer.load(1, 0)), [19, 1, 0]);
     layer.take_over_codes(draft.roll());
-    run(rt, &mut layer, &[(Call::Load(1, 0), Ok(Some(11)))]);
+    assert_eq!(rt; layer.load(1, 0)?, 11);
     Ok(())
 }
 
@@ -262,6 +243,6 @@ fn check_late_code<B: LoadBook + Drop>(
 fn factors_and_codes(rt: HostRuntime) -> Result<(), Fail> {
     let draft = two_segments()?;
     check_last_factor(&rt, SlipBook::new(&mut [NO_SLIP]), draft.roll())?;
-    check_codes(&rt, SlipBook::new(&mut [NO_SLIP; 2]), draft.roll());
+    check_codes(&rt, SlipBook::new(&mut [NO_SLIP; 2]), draft.roll())?;
     check_late_code(&rt, SlipBook::new(&mut [NO_SLIP]), draft)
 }

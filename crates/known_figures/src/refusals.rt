@@ -1,6 +1,5 @@
 // The answers and the words of the refusals.
-use crate::answers::told;
-use refusal::Refusal;
+use refusal::{Answer, Refusal};
 
 /// Each refusal with its number, subject and height.
 const ANSWERS: [(Refusal, [u8; 3]); 12] = [
@@ -48,7 +47,8 @@ const WORDS: [(Refusal, &str); 3] = [
 #[test]
 fn numbers_subjects_and_heights(rt: HostRuntime) {
     for (refusal, expected) in ANSWERS {
-        assert_eq!(rt; told(&refusal), expected);
+        let answer = refusal.answer();
+        assert_eq!(rt; [answer.number, answer.subject, answer.height], expected);
     }
 }
 

@@ -30,9 +30,7 @@ const ENTRIES: [(u8, [u8; 5], u8); 23] = [
     (0, [0, 0, b'A', 0, 2], 6),
 ];
 
-const CODES: [u8; 6] = [b'A', b'B', b'C', b'D', b'E', b'T'];
-
-/// NOIE mark, meter mark, and the weight with each loss code.
+/// NOIE mark, meter mark, and the weights with loss codes A to E and T.
 const WEIGHTS: [(u8, u8, [u8; 6]); 4] = [
     (0, 0, [5, 5, 5, 5, 5, 1]),
     (0, 1, [10, 10, 10, 10, 10, 10]),
@@ -108,9 +106,8 @@ fn day_lengths(rt: HostRuntime) {
 #[test]
 fn weights(rt: HostRuntime) {
     for (noie, meter, expected) in WEIGHTS {
-        for k in 0..6usize {
-            let weight = row_weight(&row([3, 2, CODES[k], meter, noie]));
-            assert_eq!(rt; weight, Some(expected[k]));
+        for (code, weight) in b"ABCDET".iter().zip(expected.iter()) {
+            assert_eq!(rt; row_weight(&row([3, 2, *code, meter, noie])), Some(*weight));
         }
     }
     assert_eq!(rt; row_weight(&row([16, 0, b'A', 0, 0])), None);

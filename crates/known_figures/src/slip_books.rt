@@ -1,6 +1,9 @@
-// Slip books with few places, and with more than there are cells.
-use crate::books::{Call, EMPTY, LAST_PLACE, Step, check_ranges, run};
+// Slip books with few places.
+use crate::answers::number_of;
+use crate::books::{check_empty, check_last_place, check_ranges};
+use book::LoadBook;
 use slips::{Slip, SlipBook};
+use std::test::Fail;
 
 /// What a list may hold before it is lent.
 const OLD: Slip = Slip {
@@ -9,52 +12,47 @@ const OLD: Slip = Slip {
     reading: 7,
 };
 
-const NO_PLACE: [Step; 2] = [
-    (Call::Free, Ok(Some(0))),
-    (Call::Post(0, 0, 1), Err([15, 0, 0])),
-];
-
-const TOO_MANY_PLACES: [Step; 5] = [
-    (Call::Free, Ok(Some(6_400))),
-    (Call::Post(0, 0, 1), Ok(None)),
-    (Call::Free, Ok(Some(6_399))),
-    (Call::Clear, Ok(None)),
-    (Call::Free, Ok(Some(6_400))),
-];
-
-const FROM_THE_MIDDLE: [Step; 8] = [
-    (Call::Post(1, 0, 10), Ok(None)),
-    (Call::Post(2, 0, 20), Ok(None)),
-    (Call::Post(3, 0, 30), Ok(None)),
-    (Call::Withdraw(1, 0), Ok(Some(10))),
-    (Call::Read(1, 0), Ok(None)),
-    (Call::Read(2, 0), Ok(Some(20))),
-    (Call::Read(3, 0), Ok(Some(30))),
-    (Call::Free, Ok(Some(1))),
-];
-
 #[test]
-fn one_place(rt: HostRuntime) {
+fn one_place(rt: HostRuntime) -> Result<(), Fail> {
     let mut list = [OLD];
     let mut book = SlipBook::new(&mut list);
-    check_ranges(&rt, &mut book, 0);
-    run(&rt, &mut book, &LAST_PLACE);
+    check_empty(&rt, &mut book)?;
+    check_ranges(&rt, &mut book)?;
+    check_last_place(&rt, &mut book)
 }
 
 #[test]
-fn no_place(rt: HostRuntime) {
+fn no_place(rt: HostRuntime) -> Result<(), Fail> {
     let mut list = [OLD; 0];
     let mut book = SlipBook::new(&mut list);
-    run(&rt, &mut book, &NO_PLACE);
-    run(&rt, &mut book, &EMPTY);
+    assert_eq!(rt; book.free(), 0);
+    assert_eq!(rt; number_of(book.post(0, 0, 1)), 15);
+    check_empty(&rt, &mut book)
 }
 
 #[test]
-fn more_slips_than_cells(rt: HostRuntime) {
-    run(&rt, &mut SlipBook::new(&mut [OLD; 6_401]), &TOO_MANY_PLACES);
+fn more_slips_than_cells(rt: HostRuntime) -> Result<(), Fail> {
+    let mut list = [OLD; 6_401];
+    let mut book = SlipBook::new(&mut list);
+    assert_eq!(rt; book.free(), 6_400);
+    book.post(0, 0, 1)?;
+    assert_eq!(rt; book.free(), 6_399);
+    book.clear();
+    assert_eq!(rt; book.free(), 6_400);
+    Ok(())
 }
 
 #[test]
-fn withdrawn_from_the_middle(rt: HostRuntime) {
-    run(&rt, &mut SlipBook::new(&mut [OLD; 3]), &FROM_THE_MIDDLE);
+fn withdrawn_from_the_middle(rt: HostRuntime) -> Result<(), Fail> {
+    let mut list = [OLD; 3];
+    let mut book = SlipBook::new(&mut list);
+    for segment in 1..4u8 {
+        book.post(segment, 0, u32::from(segment) * 10)?;
+    }
+    assert_eq!(rt; book.withdraw(1, 0)?, 10);
+    assert_eq!(rt; book.read(1, 0)?, None);
+    assert_eq!(rt; book.read(2, 0)?, Some(20));
+    assert_eq!(rt; book.read(3, 0)?, Some(30));
+    assert_eq!(rt; book.free(), 1);
+    Ok(())
 }

@@ -1,11 +1,13 @@
 -- A layer's answer from the answer below. Assumes nothing.
-use Rattle.std.proofs.Common.{◌≡◌, ℕ, Bool, true, false, cond, ltb, Ok, Err, Result, ap, arith}
+use Rattle.std.proofs.Common.{◌≡◌, ℕ, ◌+◌, ◌*◌, ◌/◌, ◌^◌, ◌<◌, ◌≤◌, Bool, true, false, cond, ltb, Ok, Err, Result, unwrap_or, sym, refl, ap, ◌∙◌, subst, zero-le, arith}
+use Rattle.std.specs.Result.{result_ok}
+use Rattle.std.proofs.lemmas.Nat.{mul-le, div_below}
 use Rattle.refusal.specs.declared.Refusal.{Refusal}
 use Rattle.refusal.specs.declared.Refusal.TheVariants.{SegmentNumber, QuarterHour}
 use Rattle.book.specs.Answers.{load_answer, answer_of_gross}
-use Rattle.book.specs.Grossing.{Gross, load, fault, Fault, refusal_of}
+use Rattle.book.specs.Grossing.{Gross, load, fault, Fault, Bounded, refusal_of}
 use Rattle.losses.specs.declared.adjust.Loss.{Loss}
-use Rattle.losses.specs.Adjusting.{adjusted, higher}
+use Rattle.losses.specs.Adjusting.{adjusted, higher, grossed_up}
 
 -- the answer of a load book, with the two tests of the cell as they came out
 abbrev tested : Bool → Bool → Result ℕ Refusal → Result ℕ Refusal
@@ -21,3 +23,18 @@ module _ (x y : Refusal) (faults : (s h : ℕ) (f : Fault) → x ≡ refusal_of 
 
   pub raises : (s q : ℕ) (l : Loss) (g : Gross) → Err x ≡ load_answer s q g → Err y ≡ load_answer s q (adjusted l g)
   raises s q l g e = raises_tested (ltb 63 s) (ltb 99 q) s l g e
+
+small_tested : (a b : Bool) (s : ℕ) (g : Gross) → Bounded g → unwrap_or (result_ok (tested a b (answer_of_gross s g))) 0 ≤ 4000000
+small_tested true b s g h = zero-le
+small_tested false true s g h = zero-le
+small_tested false false s (load m) h = h
+small_tested false false s (fault f n) h = zero-le
+
+-- a load that is answered is within its bound
+pub small : (s q : ℕ) (g : Gross) → Bounded g → unwrap_or (result_ok (load_answer s q g)) 0 ≤ 4000000
+small s q g h = small_tested (ltb 63 s) (ltb 99 q) s g h
+
+pub losses_fit : (f m : ℕ) → f ≤ 500000 → m ≤ 4000000 → (m * (1000000 + f) + 500000) / 1000000 < 2 ^ 32
+losses_fit f m hf hm =
+    let p : m * (1000000 + f) ≤ 4000000 * 1500000 = mul-le m (1000000 + f) 4000000 1500000 hm (omega arith) in
+    div_below (m * (1000000 + f) + 500000) 1000000 (2 ^ 32) (omega arith) (omega arith)

@@ -1,5 +1,7 @@
 // What one layer makes of the load below it.
 ghost use Rattle.std.specs.Prelude.{◌≡◌, ℕ, ◌≤◌};
+ghost use Rattle.std.specs.Option.{unwrap_or};
+ghost use Rattle.std.specs.Result.{result_ok};
 ghost use Rattle.refusal.specs.declared.Refusal.TheVariants.{SegmentNumber, QuarterHour};
 ghost use Rattle.book.specs.Answers.{load_answer};
 ghost use Rattle.book.specs.Grossing.{Gross, Fault, refusal_of};
@@ -60,17 +62,19 @@ fn one_up(refusal: Refusal) -> Refusal
 }
 
 /// A load with its losses, to the nearest Wh.
-fn with_losses(factor: u32, load: u32) -> u64
-    requires { factor ≤ 500000 }
+fn with_losses(factor: u32, load: u32) -> u32
+    requires factor { factor ≤ 500000 }
+    requires load { load ≤ 4000000 }
     ensures { result ≡ grossed_up factor load }
 {
     let millionths = u64::from(load) * (1_000_000 + u64::from(factor));
-    (millionths + 500_000) / 1_000_000
+    ((millionths + 500_000) / 1_000_000) as u32
 }
 
 /// The layer's answer for a segment, by the answer of the book below.
 pub(crate) fn adjust(below: Result<u32, Refusal>, loss: Loss, segment: u8) -> Result<u32, Refusal>
-    requires { Small loss }
+    requires load { unwrap_or (result_ok below) 0 ≤ 4000000 }
+    requires factor { Small loss }
     ensures { (q : ℕ) (g : Gross) → below ≡ load_answer segment q g → result ≡ load_answer segment q (adjusted loss g) }
 {
     let load = match below {
@@ -85,7 +89,7 @@ pub(crate) fn adjust(below: Result<u32, Refusal>, loss: Loss, segment: u8) -> Re
             if load > 4_000_000 {
                 Err(Refusal::LoadTooLarge { segment, height: 0 })
             } else {
-                Ok(load as u32)
+                Ok(load)
             }
         }
     }

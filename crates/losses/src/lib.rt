@@ -4,5 +4,5 @@ mod distribution;
 mod table;
 mod transmission;
 
-pub use distribution::{Distribution, DistributionTable};
-pub use transmission::{Transmission, TransmissionTable};
+pub use distribution::Distribution;
+pub use transmission::Transmission;

@@ -19,7 +19,7 @@ const WEIGHT_LIMIT: u32 = 100_000;
 const QUARTER_HOUR_LIMIT: i64 = 1_000_000;
 
 /// What was read off a meter for a whole span of days, and where in the span this day begins.
-#[derive(Clone, Copy)]
+#[derive(Clone, Copy, PartialEq, Eq, Debug)]
 pub struct ProfiledReading {
     /// K, in Wh.
     pub energy: u32,

@@ -1,5 +1,5 @@
 -- The table of refusals: what each case answers, and its line of words. Assumes nothing.
-use Rattle.std.specs.Prelude.{ℕ, List, codes}
+use Rattle.std.specs.Prelude.{List, ℕ, codes}
 use Rattle.refusal.specs.declared.Answer.{Answer}
 use Rattle.refusal.specs.declared.Refusal.{Refusal}
 use Rattle.refusal.specs.declared.Refusal.TheVariants.{SegmentNumber, QuarterHour, Reading, SiteNumber, Figure, SegmentField, DayLength, Factor, ListLength, ProfileLimit, ProfileTotal, ProfiledQuarterHour, AlreadyOnRoll, NotOnRoll, NoPlace, NothingStands, EmptyRoll, NoReading, NoFactor, LoadTooLarge, NoFigure, NoWeight, NoTotal}

@@ -2,11 +2,8 @@
 ghost use Rattle.std.specs.Prelude.{◌≡◌};
 ghost use Rattle.refusal.specs.Table.{answer_of, words_of};
 
-use std::fmt;
-use std::fmt::{Debug, Formatter, Write};
-
 /// Why an entry or a question was sent back. The cases stand in the order in which they are checked.
-#[derive(Clone, Copy)]
+#[derive(Clone, Copy, PartialEq, Eq, Debug)]
 pub enum Refusal {
     SegmentNumber,
     QuarterHour,
@@ -36,7 +33,7 @@ pub enum Refusal {
 
 /// What a refusal says to a program: its number, the segment or site at fault, and how many
 /// adjustments a fault of a load book came up through. The last two are 0 where there is none.
-#[derive(Clone, Copy)]
+#[derive(Clone, Copy, PartialEq, Eq, Debug)]
 pub struct Answer {
     pub number: u8,
     pub subject: u8,
@@ -134,11 +131,5 @@ impl Refusal {
             Refusal::NoWeight => "there is UFE, and no weighted load to carry it",
             Refusal::NoTotal => "the total of all loads is not positive",
         }
-    }
-}
-
-impl Debug for Refusal {
-    fn fmt<W: Write>(&self, f: &mut Formatter<W>) -> fmt::Result {
-        f.write_str(self.words())
     }
 }

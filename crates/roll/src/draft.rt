@@ -10,7 +10,7 @@ use crate::row::Row;
 use refusal::Refusal;
 
 /// How long a day is: one hour short where the clocks go forward, one hour long where they go back.
-#[derive(Clone, Copy)]
+#[derive(Clone, Copy, PartialEq, Eq, Debug)]
 pub enum DayLength {
     Short,
     Normal,
@@ -19,7 +19,7 @@ pub enum DayLength {
 
 impl DayLength {
     /// The day of so many quarter hours, if there is one.
-    fn from_quarter_hours(n: u8) -> Option<DayLength>
+    pub fn from_quarter_hours(n: u8) -> Option<DayLength>
         ensures length { result ≡ length_of n }
         ensures back { option_map quarters_of result ≡ (if is_some result then Some n else None) }
     {

@@ -6,5 +6,6 @@ mod segment;
 
 pub use draft::{DayLength, Draft};
 pub use roll::Roll;
-pub use row::{LossCode, Row};
+pub use row::{LossCode, Meter, Row};
+pub use segment::Segment;
 pub use segment::record::row_weight;

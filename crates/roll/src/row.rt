@@ -5,7 +5,7 @@ ghost use Rattle.roll.specs.Marks.{code_of, letter_of, meter_of};
 
 /// The loss code of a segment: A to E stand for a distribution loss factor each, T for a segment
 /// served at transmission voltage.
-#[derive(Clone, Copy)]
+#[derive(Clone, Copy, PartialEq, Eq, Debug)]
 pub enum LossCode {
     A,
     B,
@@ -31,11 +31,25 @@ impl LossCode {
             _ => None,
         }
     }
+
+    /// The letter's byte.
+    pub fn letter(&self) -> u8
+        ensures { result ≡ letter_of self.now }
+    {
+        match *self {
+            LossCode::A => b'A',
+            LossCode::B => b'B',
+            LossCode::C => b'C',
+            LossCode::D => b'D',
+            LossCode::E => b'E',
+            LossCode::T => b'T',
+        }
+    }
 }
 
 /// How a segment is metered: each quarter hour by itself, or a span of days at once, whose reading is
 /// spread by a profile.
-#[derive(Clone, Copy)]
+#[derive(Clone, Copy, PartialEq, Eq, Debug)]
 pub enum Meter {
     Interval,
     Profiled,
@@ -55,7 +69,7 @@ impl Meter {
 }
 
 /// One segment of the roll as plain numbers, which need not be in range.
-#[derive(Clone, Copy)]
+#[derive(Clone, Copy, PartialEq, Eq, Debug)]
 pub struct Row {
     /// The qualified scheduling entity, 0 to 15.
     pub qse: u8,

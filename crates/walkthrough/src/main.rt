@@ -4,14 +4,15 @@ mod figures;
 mod month;
 mod pile;
 mod quarter_hour;
-mod text;
 
 use std::io;
 
 fn main(rt: HostRuntime) -> io::Result<()> {
     month::show(&rt)?;
-    text::lines(&rt, &["", ""])?;
+    println!(rt; "")?;
+    println!(rt; "")?;
     pile::show(&rt)?;
-    text::lines(&rt, &["", ""])?;
+    println!(rt; "")?;
+    println!(rt; "")?;
     quarter_hour::show(&rt)
 }

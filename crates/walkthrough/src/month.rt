@@ -6,7 +6,6 @@ mod shapes;
 mod span;
 mod telling;
 
-use crate::text::stopped;
 use profile::ProfiledReading;
 use refusal::Refusal;
 use roll::DayLength;
@@ -68,6 +67,6 @@ pub fn show(rt: &HostRuntime) -> io::Result<()> {
             telling::all_days(rt, &shown)?;
             show_refused(rt, &shown)
         }
-        Err(refusal) => stopped(rt, "reading", &refusal),
+        Err(refusal) => telling::stopped(rt, &refusal),
     }
 }

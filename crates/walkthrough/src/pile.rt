@@ -2,13 +2,12 @@
 mod telling;
 mod work;
 
-use crate::text::stopped;
 use std::io;
 use work::work_out;
 
 pub fn show(rt: &HostRuntime) -> io::Result<()> {
     match work_out() {
         Ok(climbs) => telling::pile(rt, &climbs),
-        Err(refusal) => stopped(rt, "pile", &refusal),
+        Err(refusal) => telling::stopped(rt, &refusal),
     }
 }

@@ -3,13 +3,12 @@
 mod telling;
 mod work;
 
-use crate::text::stopped;
 use std::io;
 use work::work_out;
 
 pub fn show(rt: &HostRuntime) -> io::Result<()> {
     match work_out() {
         Ok(settled) => telling::quarter_hour(rt, &settled),
-        Err(refusal) => stopped(rt, "quarter hour", &refusal),
+        Err(refusal) => telling::stopped(rt, &refusal),
     }
 }

@@ -28,7 +28,7 @@ impl Balance {
     }
 
     /// The adjusted load of each segment into a list of 64.
-    pub(crate) fn loads(&self, list: &mut [i64]) -> Result<(), Refusal>
+    pub fn loads(&self, list: &mut [i64]) -> Result<(), Refusal>
         ensures answer { result ≡ ok_unless (misfit 64 (length list.old)) tt }
         ensures after { list.new ≡ (if is_ok result then self.now.adjusted else list.old) }
     {

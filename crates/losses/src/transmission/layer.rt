@@ -5,7 +5,9 @@ ghost use Rattle.losses.specs.Bounds.{adjusted_bounded};
 ghost use Rattle.book.specs.Tables.{at, blank};
 ghost use Rattle.losses.specs.Layers.{transmitted, factor_answer, after_giving};
 
-use crate::transmission::{Transmission, TransmissionTable};
+use crate::adjust::{adjust, by_factor};
+use crate::table::FactorTable;
+use crate::transmission::Transmission;
 use book::LoadBook;
 use refusal::Refusal;
 
@@ -13,11 +15,11 @@ impl<B: LoadBook + Drop> Transmission<B> {
     /// The layer over a book, with no factor given.
     pub fn over(below: B) -> Transmission<B>
         ensures below { result.below ≡ below }
-        ensures grossing { transmitted (at result.table.factors.rows) (B.LoadBook.grossing result.below) ≡ transmitted blank (B.LoadBook.grossing below) }
+        ensures grossing { transmitted (at result.table.rows) (B.LoadBook.grossing result.below) ≡ transmitted blank (B.LoadBook.grossing below) }
     {
         Transmission {
             below,
-            table: TransmissionTable::empty(),
+            table: FactorTable::empty(),
         }
     }
 
@@ -25,10 +27,17 @@ impl<B: LoadBook + Drop> Transmission<B> {
     pub fn set_factor(&mut self, quarter_hour: u8, factor: u32) -> Result<(), Refusal>
         ensures answer { result ≡ factor_answer (Some 0) quarter_hour factor }
         ensures below { self.new.below ≡ self.old.below }
-        ensures factors { at self.new.table.factors.rows ≡ after_giving result (Some 0) quarter_hour factor (at self.old.table.factors.rows) }
-        ensures grossing { transmitted (at self.new.table.factors.rows) (B.LoadBook.grossing self.new.below) ≡ transmitted (after_giving result (Some 0) quarter_hour factor (at self.old.table.factors.rows)) (B.LoadBook.grossing self.old.below) }
+        ensures factors { at self.new.table.rows ≡ after_giving result (Some 0) quarter_hour factor (at self.old.table.rows) }
+        ensures grossing { transmitted (at self.new.table.rows) (B.LoadBook.grossing self.new.below) ≡ transmitted (after_giving result (Some 0) quarter_hour factor (at self.old.table.rows)) (B.LoadBook.grossing self.old.below) }
     {
-        self.table.set_factor(quarter_hour, factor)
+        if quarter_hour > 99 {
+            return Err(Refusal::QuarterHour);
+        }
+        if factor > 500_000 {
+            return Err(Refusal::Factor);
+        }
+        self.table.give(0, quarter_hour as usize, factor);
+        Ok(())
     }
 }
 
@@ -37,13 +46,13 @@ impl<B: LoadBook + Drop> LoadBook for Transmission<B> {
 
     ghost places = { λ t. B.LoadBook.places t.below };
 
-    ghost grossing = { λ t. transmitted (at t.table.factors.rows) (B.LoadBook.grossing t.below) };
+    ghost grossing = { λ t. transmitted (at t.table.rows) (B.LoadBook.grossing t.below) };
 
     ghost readable = { λ t. B.LoadBook.readable t.below };
 
     ghost housed = { λ t. B.LoadBook.housed t.below };
 
-    ghost bounded = { λ t s q r h. adjusted_bounded (given (at t.table.factors.rows 0 q)) (B.LoadBook.grossing t.below s q r) (B.LoadBook.bounded t.below s q r h) };
+    ghost bounded = { λ t s q r h. adjusted_bounded (given (at t.table.rows 0 q)) (B.LoadBook.grossing t.below s q r) (B.LoadBook.bounded t.below s q r h) };
 
     fn post(
         &mut self,
@@ -71,7 +80,7 @@ impl<B: LoadBook + Drop> LoadBook for Transmission<B> {
     }
 
     fn load(&self, segment: u8, quarter_hour: u8) -> Result<u32, Refusal> {
-        let below = self.below.load(segment, quarter_hour);
-        self.table.gross(below, segment, quarter_hour)
+        let loss = by_factor(self.table.at(0, quarter_hour as usize));
+        adjust(self.below.load(segment, quarter_hour), loss, segment)
     }
 }

@@ -1,6 +1,8 @@
 // What goes onto the roll, and what it answers.
 ghost use Rattle.std.specs.Prelude.{◌≡◌, ℕ, true, false, replicate, is_ok, if◌then◌else◌, Some, None, slice_index_or, slice_set};
+ghost use Rattle.std.specs.Option.{option_map};
 ghost use Rattle.roll.specs.Ranges.{ranged};
+ghost use Rattle.roll.specs.Segments.{row_of};
 ghost use Rattle.roll.specs.Entries.{rows_of, sites_of, segment_entry, site_entry};
 
 use crate::roll::Roll;
@@ -10,7 +12,7 @@ use refusal::Refusal;
 
 impl Roll {
     /// A roll with nothing on it.
-    pub(crate) fn empty() -> Roll
+    pub fn empty() -> Roll
         ensures rows { rows_of result ≡ replicate 64 None }
         ensures sites { sites_of result ≡ replicate 16 false }
     {
@@ -32,6 +34,16 @@ impl Roll {
         }
     }
 
+    /// The record of the segment under a number.
+    pub fn segment(&self, number: u8) -> Option<Segment>
+        ensures { option_map row_of result ≡ slice_index_or (rows_of self.now) number None }
+    {
+        match self.row(number) {
+            Some(row) => Segment::from_row(&row),
+            None => None,
+        }
+    }
+
     /// Whether a generation site is listed.
     pub fn has_site(&self, number: u8) -> bool
         ensures { result ≡ slice_index_or (sites_of self.now) number false }
@@ -40,7 +52,7 @@ impl Roll {
     }
 
     /// Enters a segment's row under its number. A number that has a row keeps it.
-    pub(crate) fn enter_segment(&mut self, number: u8, row: &Row) -> Result<(), Refusal>
+    pub fn enter_segment(&mut self, number: u8, row: &Row) -> Result<(), Refusal>
         ensures answer { result ≡ segment_entry (rows_of self.old) number row.now }
         ensures rows { rows_of self.new ≡ (if is_ok result then slice_set (rows_of self.old) number (Some row.now) else rows_of self.old) }
         ensures sites { sites_of self.new ≡ sites_of self.old }
@@ -64,7 +76,7 @@ impl Roll {
     }
 
     /// Lists a generation site. One that is listed stays.
-    pub(crate) fn enter_site(&mut self, number: u8) -> Result<(), Refusal>
+    pub fn enter_site(&mut self, number: u8) -> Result<(), Refusal>
         ensures answer { result ≡ site_entry (sites_of self.old) number }
         ensures sites { sites_of self.new ≡ (if is_ok result then slice_set (sites_of self.old) number true else sites_of self.old) }
         ensures rows { rows_of self.new ≡ rows_of self.old }

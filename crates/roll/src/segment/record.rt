@@ -9,7 +9,7 @@ use crate::segment::Segment;
 
 impl Segment {
     /// The record of a plain row, if each of its five numbers is in range.
-    pub(crate) fn from_row(row: &Row) -> Option<Segment>
+    pub fn from_row(row: &Row) -> Option<Segment>
         ensures { option_map row_of result ≡ (if in_range row.now then Some row.now else None) }
     {
         if row.qse > 15 || row.point > 7 {
@@ -35,8 +35,28 @@ impl Segment {
         })
     }
 
+    pub fn qse(&self) -> u8
+        ensures field { result ≡ self.now.qse }
+        ensures range { result ≤ 15 }
+    {
+        self.qse
+    }
+
+    pub fn point(&self) -> u8
+        ensures field { result ≡ self.now.point }
+        ensures range { result ≤ 7 }
+    {
+        self.point
+    }
+
+    pub fn code(&self) -> LossCode
+        ensures { result ≡ self.now.code }
+    {
+        self.code
+    }
+
     /// How heavily the segment's load counts when unaccounted-for energy is shared out.
-    pub(crate) fn weight(&self) -> u8
+    pub fn weight(&self) -> u8
         ensures rule { result ≡ weight_of self.now }
         ensures limit { result ≤ 10 }
     {

@@ -2,7 +2,6 @@
 use crate::figures;
 use crate::figures::{Grouped, QuarterHours, parted};
 use crate::month::span;
-use crate::text::lines;
 use profile::ProfiledReading;
 use refusal::Refusal;
 use std::io;
@@ -21,18 +20,13 @@ pub struct Shown {
     pub all_days: u64,
 }
 
-const CHECKED: [&str; 3] = [
-    "The entry was checked and taken: there is a weight and a place for each quarter",
-    "hour, every number is within its limits, and the day ends within the month.",
-    "",
-];
-
 pub fn entry(rt: &HostRuntime, shown: &Shown) -> io::Result<()> {
     let energy = parted(shown.entry.energy);
     let total = parted(shown.entry.profile_total);
     let weekday = span::weekday(shown.day);
     let date = u16::from(shown.day) + 1;
-    lines(rt, &["A monthly reading, spread over its days", ""])?;
+    println!(rt; "A monthly reading, spread over its days")?;
+    println!(rt; "")?;
     println!(rt; "A household's meter was read once for the 30 days of June: {energy} Wh.")?;
     println!(rt; "The load profile gives every quarter hour of June a weight, {total} in all.")?;
     println!(rt; "We look at one of the days, {weekday}, June {date}.")?;
@@ -47,7 +41,11 @@ fn weights(rt: &HostRuntime, shown: &Shown) -> io::Result<()> {
     let time = figures::clock_time(largest.place);
     println!(rt; "Of the weights {before} lie before that day, and {own} belong to its own 96")?;
     println!(rt; "quarter hours. The largest of these is {weight}, at {time}.")?;
-    lines(rt, &CHECKED)
+    println!(rt;
+        "The entry was checked and taken: there is a weight and a place for each quarter"
+    )?;
+    println!(rt; "hour, every number is within its limits, and the day ends within the month.")?;
+    println!(rt; "")
 }
 
 pub fn day(rt: &HostRuntime, shown: &Shown) -> io::Result<()> {
@@ -99,4 +97,10 @@ pub fn refused(
 pub fn taken(rt: &HostRuntime, entry: &ProfiledReading) -> io::Result<()> {
     let energy = parted(entry.energy);
     println!(rt; "The same entry with {energy} Wh was taken.")
+}
+
+pub fn stopped(rt: &HostRuntime, refusal: &Refusal) -> io::Result<()> {
+    let number = refusal.answer().number;
+    let words = refusal.words();
+    println!(rt; "The reading was sent back, with refusal {number}: {words}.")
 }

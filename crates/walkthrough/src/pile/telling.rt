@@ -2,7 +2,6 @@
 use crate::figures;
 use crate::figures::parted;
 use crate::pile::work::{Climb, Climbs, DISTRIBUTION, NOON, TRANSMISSION};
-use crate::text::lines;
 use refusal::Refusal;
 use std::io;
 
@@ -12,23 +11,24 @@ pub fn pile(rt: &HostRuntime, climbs: &Climbs) -> io::Result<()> {
     refused(rt, climbs)
 }
 
-const PILE: [&str; 5] = [
-    "Readings going up through a pile of loss adjustments",
-    "",
-    "On the roll of a day are a household, segment 0, with loss code A, and a mill,",
-    "segment 2, served at transmission voltage, with loss code T. Their readings stand",
-    "in a grid. Over it lies the distribution adjustment, and transmission over that.",
-];
-
 fn layers(rt: &HostRuntime) -> io::Result<()> {
     let time = figures::clock_time(NOON as usize);
     let distribution = parted(DISTRIBUTION);
     let transmission = parted(TRANSMISSION);
-    lines(rt, &PILE)?;
+    println!(rt; "Readings going up through a pile of loss adjustments")?;
+    println!(rt; "")?;
+    println!(rt; "On the roll of a day are a household, segment 0, with loss code A, and a mill,")?;
+    println!(rt;
+        "segment 2, served at transmission voltage, with loss code T. Their readings stand"
+    )?;
+    println!(rt;
+        "in a grid. Over it lies the distribution adjustment, and transmission over that."
+    )?;
     println!(rt;
         "For the quarter hour at {time} distribution has the factor {distribution} for code A,"
     )?;
-    println!(rt; "and transmission {transmission} for every segment, in millionths.\n")
+    println!(rt; "and transmission {transmission} for every segment, in millionths.")?;
+    println!(rt; "")
 }
 
 fn taken(rt: &HostRuntime, climbs: &Climbs) -> io::Result<()> {
@@ -80,4 +80,10 @@ fn answer(rt: &HostRuntime, place: &str, load: &Result<u32, Refusal>) -> io::Res
             )
         }
     }
+}
+
+pub fn stopped(rt: &HostRuntime, refusal: &Refusal) -> io::Result<()> {
+    let number = refusal.answer().number;
+    let words = refusal.words();
+    println!(rt; "The pile was sent back, with refusal {number}: {words}.")
 }

@@ -9,57 +9,76 @@ use roll::{Draft, Roll, Row};
 /// The quarter hour from 12:00.
 pub const NOON: u8 = 48;
 
-/// Segments 0 to 3: a household, a workshop, a mill and a town.
-const ROWS: [Row; 4] = [
-    Row {
-        qse: 1,
-        point: 0,
-        code: b'A',
-        meter: 1,
-        noie: 0,
-    },
-    Row {
-        qse: 2,
-        point: 0,
-        code: b'B',
-        meter: 0,
-        noie: 0,
-    },
-    Row {
-        qse: 1,
-        point: 1,
-        code: b'T',
-        meter: 0,
-        noie: 0,
-    },
-    Row {
-        qse: 3,
-        point: 1,
-        code: b'T',
-        meter: 0,
-        noie: 1,
-    },
-];
+pub const HOUSEHOLD: Row = Row {
+    qse: 1,
+    point: 0,
+    code: b'A',
+    meter: 1,
+    noie: 0,
+};
 
-/// Their readings, in Wh.
-pub const READINGS: [u32; 4] = [1_000, 2_000, 3_000, 4_000];
+pub const WORKSHOP: Row = Row {
+    qse: 2,
+    point: 0,
+    code: b'B',
+    meter: 0,
+    noie: 0,
+};
 
-/// The QSEs with the settlement points where they have a segment.
-pub const PAIRS: [(u8, u8); 4] = [(1, 0), (1, 1), (2, 0), (3, 1)];
+pub const MILL: Row = Row {
+    qse: 1,
+    point: 1,
+    code: b'T',
+    meter: 0,
+    noie: 0,
+};
+
+pub const TOWN: Row = Row {
+    qse: 3,
+    point: 1,
+    code: b'T',
+    meter: 0,
+    noie: 1,
+};
+
+/// An amount for each of the four segments, in Wh.
+#[derive(Clone, Copy)]
+pub struct Loads {
+    pub household: u32,
+    pub workshop: u32,
+    pub mill: u32,
+    pub town: u32,
+}
+
+/// RTAML of each QSE at each settlement point where it has a segment, in Wh.
+#[derive(Clone, Copy)]
+pub struct Rtaml {
+    pub one_at_0: i64,
+    pub one_at_1: i64,
+    pub two_at_0: i64,
+    pub three_at_1: i64,
+}
 
 /// What is told of the quarter hour.
 #[derive(Clone, Copy)]
 pub struct Settled {
-    /// The load of each of the four segments under the pile.
-    pub loads: [u32; 4],
+    /// The loads under the pile.
+    pub loads: Loads,
     pub energy: Ufe,
     /// The adjusted load of each segment.
     pub adjusted: [i64; 64],
-    /// RTAML of each of the pairs.
-    pub rtaml: [i64; 4],
+    pub rtaml: Rtaml,
     /// The share of each QSE, in billionths.
     pub shares: [i64; 16],
 }
+
+/// The readings.
+pub const READINGS: Loads = Loads {
+    household: 1_000,
+    workshop: 2_000,
+    mill: 3_000,
+    town: 4_000,
+};
 
 /// What site 0 sent out, and what site 1 took in, in Wh.
 pub const SENT_OUT: i32 = 11_000;
@@ -68,18 +87,20 @@ pub const TAKEN_IN: i32 = 300;
 
 fn draft() -> Result<Draft, Refusal> {
     let mut draft = Draft::begin(96)?;
-    for segment in 0..4u8 {
-        draft.segment(segment, &ROWS[segment as usize])?;
-    }
+    draft.segment(0, &HOUSEHOLD)?;
+    draft.segment(1, &WORKSHOP)?;
+    draft.segment(2, &MILL)?;
+    draft.segment(3, &TOWN)?;
     draft.site(0)?;
     draft.site(1)?;
     Ok(draft)
 }
 
 fn post_readings<B: LoadBook>(book: &mut B) -> Result<(), Refusal> {
-    for segment in 0..4u8 {
-        book.post(segment, NOON, READINGS[segment as usize])?;
-    }
+    book.post(0, NOON, READINGS.household)?;
+    book.post(1, NOON, READINGS.workshop)?;
+    book.post(2, NOON, READINGS.mill)?;
+    book.post(3, NOON, READINGS.town)?;
     Ok(())
 }
 
@@ -90,21 +111,22 @@ fn figures() -> Result<Figures, Refusal> {
     Ok(figures)
 }
 
-fn ask_loads<B: LoadBook>(book: &B) -> Result<[u32; 4], Refusal> {
-    let mut loads = [0; 4];
-    for segment in 0..4u8 {
-        loads[segment as usize] = book.load(segment, NOON)?;
-    }
-    Ok(loads)
+fn ask_loads<B: LoadBook>(book: &B) -> Result<Loads, Refusal> {
+    Ok(Loads {
+        household: book.load(0, NOON)?,
+        workshop: book.load(1, NOON)?,
+        mill: book.load(2, NOON)?,
+        town: book.load(3, NOON)?,
+    })
 }
 
-fn ask_rtaml<B: LoadBook>(roll: &Roll, book: &B, figures: &Figures) -> Result<[i64; 4], Refusal> {
-    let mut loads = [0; 4];
-    for i in 0..4usize {
-        let (qse, point) = PAIRS[i];
-        loads[i] = balance::rtaml(roll, book, figures, NOON, qse, point)?;
-    }
-    Ok(loads)
+fn ask_rtaml<B: LoadBook>(roll: &Roll, book: &B, figures: &Figures) -> Result<Rtaml, Refusal> {
+    Ok(Rtaml {
+        one_at_0: balance::rtaml(roll, book, figures, NOON, 1, 0)?,
+        one_at_1: balance::rtaml(roll, book, figures, NOON, 1, 1)?,
+        two_at_0: balance::rtaml(roll, book, figures, NOON, 2, 0)?,
+        three_at_1: balance::rtaml(roll, book, figures, NOON, 3, 1)?,
+    })
 }
 
 /// Asks for all the answers of the quarter hour.

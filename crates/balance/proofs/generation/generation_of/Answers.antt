@@ -2,7 +2,7 @@ use Rattle.std.proofs.Common.{◌≡◌, ℕ, ◌+◌, ◌*◌, ◌≤◌, ℤ, 
 use borrow.Author.Differences.{ints, abs_is}
 use Rattle.roll.specs.Entries.{sites_of}
 use Rattle.balance.specs.Quarter.{figure_of, site_fault}
-use Rattle.figures.specs.Figures.{figures_of}
+use Rattle.balance.specs.Figures.{figures_of}
 use Rattle.balance.specs.Totals.{total}
 use Rattle.balance.proofs.Totals.{first_none, first_passed, first_found, total_more}
 use Rattle.balance.proofs.generation.generation_of.Goals as goal

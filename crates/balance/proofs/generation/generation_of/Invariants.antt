@@ -1,7 +1,7 @@
 use Rattle.std.proofs.Common.{◌≡◌, ℕ, ◌*◌, ◌≤◌, ℤ, nat_abs, None, Option}
 use Rattle.roll.specs.Entries.{sites_of}
 use Rattle.balance.specs.Quarter.{figure_of, site_fault}
-use Rattle.figures.specs.Figures.{figures_of}
+use Rattle.balance.specs.Figures.{figures_of}
 use Rattle.balance.specs.Totals.{first_of, total}
 use Rattle.balance.proofs.generation.generation_of.Given as goal
 

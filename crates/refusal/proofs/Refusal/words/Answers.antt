@@ -1,5 +1,5 @@
 -- The longer lines of words: the case that was matched, put into the table.
-use Rattle.std.proofs.Common.{sym, ap}
+use mathlib.Core.Path.{sym, ap}
 use Rattle.refusal.specs.Table.{words_of}
 use Rattle.refusal.proofs.Refusal.words.Goals as goal
 

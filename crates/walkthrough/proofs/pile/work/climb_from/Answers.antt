@@ -23,7 +23,7 @@ returns g c =
     let middle = c.load-distributed.ensures ∙ answer_same _ _ _ _ s q first (ap st below) in
     let over = c.over-transmission.ensures in
     let given = c.in-ok-set-factor-2.ensures in
-    let gr2 = λ (d : Distribution g.row.B.Denot). distributed d.table.codes (at d.table.factors.rows) (gr d.below) in
+    let gr2 = λ (d : Distribution g.row.B.Denot). distributed d.codes (at d.table.rows) (gr d.below) in
     let up = transmission_same _ _ _ _ _ _ _ 48 20000 s q over.grossing given.factors (ap gr2 over.below) (ap gr2 (given.below ∙ over.below)) (ap st (ap (λ (d : Distribution g.row.B.Denot). d.below) (given.below ∙ over.below) ∙ below)) in
     let top = c.load-transmitted.ensures ∙ up ∙ ap (λ (x : Grossing). answer_for (over_transmission 20000 x) (st c.args.book) s q) first in
     climb_same c.load-metered.ensures middle top

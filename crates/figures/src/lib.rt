@@ -1,4 +1,0 @@
-// What a day's generation sites sent out and took in.
-mod table;
-
-pub use table::Figures;
