@@ -1,4 +1,6 @@
 // The balance of a quarter hour: what was generated, what was metered, and who carries the difference.
+#![tactic(auto)]
+
 mod figures;
 mod generation;
 mod questions;

@@ -1,5 +1,7 @@
 // The interface of a load book. A book is known by its meaning alone: what stands in it, how many
 // places it has, and what a reading, or none, grosses to. Code above is proved once, against that.
+#![tactic(auto)]
+
 ghost use Rattle.std.specs.Prelude.{◌≡◌, ℕ, ◌-◌, ◌≤◌, is_ok, if◌then◌else◌, Some, None, Option};
 ghost use Rattle.book.specs.Answers.{post_answer, withdraw_answer, read_answer, load_answer};
 ghost use Rattle.book.specs.Cells.{Standing, Readable, nothing, put, count};

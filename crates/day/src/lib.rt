@@ -1,4 +1,6 @@
 // The day: what is fixed while it lives, what was entered, and its calls.
+#![tactic(auto)]
+
 mod day;
 
 pub use day::Day;

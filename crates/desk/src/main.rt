@@ -1,4 +1,6 @@
 // The reading-in desk: each line that is typed is one call of the box, and gets one line of answer.
+#![tactic(auto)]
+
 mod clock;
 mod desk;
 mod field;

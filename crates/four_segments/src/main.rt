@@ -1,5 +1,7 @@
 // Enters a day of four segments on transmission over distribution over a grid, and prints the statement
 // of its first quarter hour, and nothing else.
+#![tactic(auto)]
+
 use book::LoadBook;
 use grid::Grid;
 use losses::{Distribution, Transmission};

@@ -1,4 +1,6 @@
 // Known figures, run through the layers of the box: one module of tests for each layer.
+#![tactic(auto)]
+
 #[cfg(test)]
 mod answers;
 #[cfg(test)]

@@ -1,5 +1,7 @@
 // What the box does with what people enter: a day of four segments, the limits, a book that is full, and
 // lively days on several books, in words.
+#![tactic(auto)]
+
 mod books;
 mod calls;
 mod day;

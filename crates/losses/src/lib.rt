@@ -1,4 +1,6 @@
 // Loss adjustments: each holds a load book below it, and is a load book itself.
+#![tactic(auto)]
+
 mod adjust;
 mod distribution;
 mod table;

@@ -1,4 +1,6 @@
 // The readings of a day for one segment, laid out from a profiled reading and posted whole or not at all.
+#![tactic(auto)]
+
 mod readings;
 mod row;
 

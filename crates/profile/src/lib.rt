@@ -1,5 +1,7 @@
 // The profiled reading: one number for many days, laid over the quarter hours of one of them along
 // a load profile, so that the days of the span add up to the number.
+#![tactic(auto)]
+
 ghost use Rattle.std.specs.Prelude.{◌≡◌, ℕ, ◌+◌, ◌-◌, ◌*◌, ◌/◌, ◌<◌, ◌≤◌, true, List, map, length, pos, ◌≤ℤ◌, is_ok, if◌then◌else◌, Some, None, sum, unsigned_abs};
 ghost use Rattle.std.specs.List.{AllByRecursion as All};
 ghost use Rattle.profile.specs.Answer.{up_to, in_range, spread_answer};

@@ -1,4 +1,6 @@
 // The refusals of the box: one closed list, which every other crate answers from.
+#![tactic(auto)]
+
 ghost use Rattle.std.specs.Prelude.{◌≡◌};
 ghost use Rattle.refusal.specs.Table.{answer_of, words_of};
 

@@ -1,4 +1,6 @@
 // The day's roll: which load segments and generation sites take part, and the draft that lists them.
+#![tactic(auto)]
+
 mod draft;
 mod roll;
 mod row;

@@ -1,4 +1,6 @@
 // A day from its opening on: a list of calls, done one after another, and the law over all of them.
+#![tactic(auto)]
+
 mod any_day;
 mod call;
 mod doing;

@@ -1,5 +1,7 @@
 // The split: one rule for everything that has a weight. A whole amount is divided over weighted
 // elements so that the whole parts add up to it, and each is less than one from its exact part.
+#![tactic(auto)]
+
 ghost use Rattle.std.specs.Prelude.{◌≡◌, ◌^◌, ◌<◌, true, map, length, ℤ, pos, ◌+ℤ◌, ◌*ℤ◌, neg_ℤ, ◌≤ℤ◌, ◌<ℤ◌, is_ok, if◌then◌else◌};
 ghost use Rattle.split.specs.Answer.{split_answer};
 ghost use Rattle.split.specs.Floor.{floor, rest};

@@ -1,4 +1,6 @@
 // The statement of a quarter hour: its balance, or why it has none, as lines of text.
+#![tactic(auto)]
+
 mod listed;
 mod pairs;
 mod put;

@@ -1,5 +1,7 @@
 // What the box does, told in words. Each part takes one case through it, from the entry to the
 // last figure.
+#![tactic(auto)]
+
 mod figures;
 mod month;
 mod pile;

@@ -1,5 +1,7 @@
 // The calls of a day and their answers in plain words, for a person to read. A sentence has no line
 // end of its own, so that a program can go on after it.
+#![tactic(auto)]
+
 mod answers;
 mod calls;
 

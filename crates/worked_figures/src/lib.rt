@@ -1,4 +1,6 @@
 // The worked figures of the rules, computed from the definitions that the contracts cite.
+#![tactic(auto)]
+
 ghost use Rattle.std.specs.Prelude.{◌≡◌};
 ghost use Rattle.worked_figures.specs.Table.{computed, expected};
 ghost use Rattle.worked_figures.specs.Texts.{computed_texts, expected_texts, computed_lengths, expected_lengths};

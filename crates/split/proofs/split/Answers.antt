@@ -16,7 +16,7 @@ returns-then-whole-eq0 g c =
     let n : ℕ = length c.args.items.now in
     let m : ℕ = length c.args.parts.now in
     let ws = map g.T.Weighted.weight c.args.items.now in
-    let ok : Ok tt ≡ split_answer amount whole n m = c.in-ok-checked.ensures ∙ ap (λ (a : ℤ). split_answer a whole n m) (to_z-of_z w32 amount c.ranges.amount) in
+    let ok : Ok tt ≡ split_answer amount whole n m = c.in_ok-checked.ensures ∙ ap (λ (a : ℤ). split_answer a whole n m) (to_z-of_z w32 amount c.ranges.amount) in
     let none = accepted_amount amount whole n m tt ok in
     let many : m ≡ length ws = accepted_lengths amount whole n m tt ok ∙ sym (length-map c.args.items.now g.T.Weighted.weight) in
     let zeros : c.fill.new.self ≡ parts_of amount whole before ws =
@@ -34,6 +34,6 @@ returns-else-whole-eq0 g c =
     let m : ℕ = length c.args.parts.now in
     let ws = map g.T.Weighted.weight c.args.items.now in
     let read = to_z-of_z w32 amount c.ranges.amount in
-    let ok : Ok tt ≡ split_answer amount whole n m = c.in-ok-checked.ensures ∙ ap (λ (a : ℤ). split_answer a whole n m) read in
-    let filled : c.fill-parts.new.parts ≡ parts_of amount whole before ws = c.fill-parts.ensures ∙ ap (λ (a : ℤ). parts_of a whole before ws) read in
+    let ok : Ok tt ≡ split_answer amount whole n m = c.in_ok-checked.ensures ∙ ap (λ (a : ℤ). split_answer a whole n m) read in
+    let filled : c.fill_parts.new.parts ≡ parts_of amount whole before ws = c.fill_parts.ensures ∙ ap (λ (a : ℤ). parts_of a whole before ws) read in
     record { answer = ok; after = filled; fair = λ _. subst (Fair amount whole before ws) (sym filled) (fair amount whole before ws (accepted_amount amount whole n m tt ok)) }
