@@ -8,8 +8,8 @@ use Rattle.std.proofs.lemmas.Int.{to_z-of_z}
 use Rattle.profile.proofs.Limits.{all_up_to, plain_within, plain_part}
 use Rattle.profile.proofs.copy_parts.Goals as goal
 
-pub overflow-cast-readings : goal.overflow-cast-readings
-overflow-cast-readings c =
+pub overflow_cast-readings : goal.overflow_cast-readings
+overflow_cast-readings c =
     let ps = c.args.parts.now in
     let i = c.loop-i.i in
     let within : i < length ps = omega arith in

@@ -5,8 +5,8 @@ use Rattle.std.proofs.lemmas.Bool.{cond-true, cond-false}
 use Rattle.profile.proofs.Limits.{up_to_over, up_to_more, up_to_end}
 use Rattle.profile.proofs.day_weight.Goals as goal
 
-pub returns-then-w-gt-WEIGHT-LIMIT : goal.returns-then-w-gt-WEIGHT-LIMIT
-returns-then-w-gt-WEIGHT-LIMIT c =
+pub returns-then-w-gt-WEIGHT_LIMIT : goal.returns-then-w-gt-WEIGHT_LIMIT
+returns-then-w-gt-WEIGHT_LIMIT c =
     let over = up_to_over 100000 c.args.weights.now c.loop-w.w-index (omega arith) (omega arith) in
     sym (cond-false _ _ _ (sym c.loop-w.invariant.2 ∙ over))
 

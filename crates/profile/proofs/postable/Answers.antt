@@ -4,8 +4,8 @@ use borrow.Author.Differences.{ints}
 use Rattle.profile.proofs.Limits.{up_to_over, up_to_more, up_to_end, plain_within, plain_part}
 use Rattle.profile.proofs.postable.Goals as goal
 
-pub returns-then-part-gt-QUARTER-HOUR-LIMIT : goal.returns-then-part-gt-QUARTER-HOUR-LIMIT
-returns-then-part-gt-QUARTER-HOUR-LIMIT c =
+pub returns-then-part-gt-QUARTER_HOUR_LIMIT : goal.returns-then-part-gt-QUARTER_HOUR_LIMIT
+returns-then-part-gt-QUARTER_HOUR_LIMIT c =
     let ps = c.args.parts.now in
     let i = c.loop-part.part-index in
     let within : i < length ps = omega arith in

@@ -15,7 +15,7 @@ pub loop-site-preserved : goal.loop-site-preserved
 unfolding figure_of
 loop-site-preserved c =
     let sites = sites_of c.args.roll.now in
-    let figure : ℕ → Option ℤ = λ i. figures_of c.args.figures.now i c.args.quarter-hour in
+    let figure : ℕ → Option ℤ = λ i. figures_of c.args.figures.now i c.args.quarter_hour in
     let site = c.loop-site.site in
     let inv = c.loop-site.invariant in
     let got = c.in-Ok.ensures in
@@ -28,5 +28,5 @@ loop-site-preserved c =
 
 pub returns-in-Err : goal.returns-in-Err
 returns-in-Err c =
-    let figure : ℕ → Option ℤ = λ i. figures_of c.args.figures.now i c.args.quarter-hour in
+    let figure : ℕ → Option ℤ = λ i. figures_of c.args.figures.now i c.args.quarter_hour in
     first_found (site_fault (sites_of c.args.roll.now) figure) c.in-Err.refusal c.loop-site.site 16 c.loop-site-test.true c.loop-site.invariant.2 c.in-Err.ensures

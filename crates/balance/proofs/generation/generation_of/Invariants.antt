@@ -8,7 +8,7 @@ use Rattle.balance.proofs.generation.generation_of.Given as goal
 -- the figures below the site, none of which was missing
 abbrev pub invariant-loop-site : goal.invariant-loop-site
 invariant-loop-site l =
-    let figure : ℕ → Option ℤ = λ i. figures_of l.figures i l.quarter-hour in
+    let figure : ℕ → Option ℤ = λ i. figures_of l.figures i l.quarter_hour in
     (l.generation ≡ total (figure_of (sites_of l.roll) figure) l.site)
     × (nat_abs l.generation ≤ l.site * 10000000)
     × (first_of (site_fault (sites_of l.roll) figure) l.site ≡ None)

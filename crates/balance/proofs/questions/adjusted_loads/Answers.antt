@@ -13,7 +13,7 @@ use Rattle.balance.proofs.questions.adjusted_loads.Goals as goal
 
 pub returns-in-Ok : goal.returns-in-Ok
 returns-in-Ok g c =
-    let q = c.args.quarter-hour in
+    let q = c.args.quarter_hour in
     let book = c.args.book.now in
     let x : Quarter = quarter_in c.args.roll.now (g.B.LoadBook.grossing book) (g.B.LoadBook.standing book) c.args.figures.now q in
     let y = sheet_of x in

@@ -7,18 +7,18 @@ use Rattle.balance.specs.Totals.{total, first_of}
 use Rattle.balance.proofs.Answering.{answers}
 use Rattle.balance.proofs.questions.balance_of.Goals as goal
 
-pub returns-in-Ok-generation-of : goal.returns-in-Ok-generation-of
-returns-in-Ok-generation-of g c =
-    let q = c.args.quarter-hour in
+pub returns-in-Ok-generation_of : goal.returns-in-Ok-generation_of
+returns-in-Ok-generation_of g c =
+    let q = c.args.quarter_hour in
     let roll = c.args.roll.now in
     let book = c.args.book.now in
     let x : Quarter = quarter_of roll (gross_at (g.B.LoadBook.grossing book) (g.B.LoadBook.standing book) q) c.args.figures.now q in
-    let gen : ℤ = c.in-Ok-generation-of.generation in
+    let gen : ℤ = c.in-Ok-generation_of.generation in
     let rows = c.in-Ok.rows in
     let loaded = c.in-Ok.ensures in
-    let made : (gen ≡ total (figure_of x.sites x.figure) 16) × (nat_abs gen ≤ 160000000) × (first_of (site_fault x.sites x.figure) 16 ≡ None) = c.in-Ok-generation-of.ensures in
+    let made : (gen ≡ total (figure_of x.sites x.figure) 16) × (nat_abs gen ≤ 160000000) × (first_of (site_fault x.sites x.figure) 16 ≡ None) = c.in-Ok-generation_of.ensures in
     let read : to_z w64 (of_z w64 gen) ≡ gen = omega (arith, ints, made.1, abs_is gen) in
     let settled : Settled (sheet_in rows (to_z w64 (of_z w64 gen))) c.settle.result = c.settle.ensures in
-    let there : is_some (first_of (somebody x.rows) 64) ≡ true = sym c.has-segment.ensures ∙ c.if-not-has-segment.false in
-    answers x roll.places.0 q c.if-quarter-hour-gt99.false there loaded.2 made.2 roll.rows_in_range rows gen loaded.0 loaded.1 made.0 c.settle.result
+    let there : is_some (first_of (somebody x.rows) 64) ≡ true = sym c.has_segment.ensures ∙ c.if-not-has_segment.false in
+    answers x roll.places.0 q c.if-quarter_hour-gt99.false there loaded.2 made.2 roll.rows_in_range rows gen loaded.0 loaded.1 made.0 c.settle.result
     (subst (λ (z : ℤ). Settled (sheet_in rows z) c.settle.result) read settled)

@@ -9,7 +9,7 @@ use Rattle.balance.proofs.questions.rtaml.Goals as goal
 
 pub returns-in-Ok : goal.returns-in-Ok
 returns-in-Ok g c =
-    let q = c.args.quarter-hour in
+    let q = c.args.quarter_hour in
     let qse = c.args.qse in
     let point = c.args.point in
     let book = c.args.book.now in

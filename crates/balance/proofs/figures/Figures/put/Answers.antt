@@ -3,14 +3,14 @@ use mathlib.Core.Path.{fun_ext}
 use Rattle.book.proofs.Tables.{put_row_length, put_at_cell, put_keeps}
 use Rattle.balance.proofs.figures.Figures.put.Goals as goal
 
-pub invariant-of-self : goal.invariant-of-self
-invariant-of-self c =
+pub invariant_of-self : goal.invariant_of-self
+invariant_of-self c =
     let s = c.args.self.now in
     let k = c.args.site in
-    let q = c.args.quarter-hour in
+    let q = c.args.quarter_hour in
     let f = c.args.content in
     let hk : k < length s.table = omega (arith, s.sites, c.requires.site) in
-    let hq : q < length (get_or s.table k []) = omega (arith, s.quarter_hours k (omega (arith, c.requires.site)), c.requires.quarter-hour) in (
+    let hq : q < length (get_or s.table k []) = omega (arith, s.quarter_hours k (omega (arith, c.requires.site)), c.requires.quarter_hour) in (
       length-set s.table k _ ∙ s.sites,
       (
         λ j h. put_row_length None s.table k q f hk hq j ∙ s.quarter_hours j h,
@@ -22,7 +22,7 @@ pub returns : goal.returns
 returns c =
     let s = c.args.self.now in
     let k = c.args.site in
-    let q = c.args.quarter-hour in
+    let q = c.args.quarter_hour in
     let hk : k < length s.table = omega (arith, s.sites, c.requires.site) in
-    let hq : q < length (get_or s.table k []) = omega (arith, s.quarter_hours k (omega (arith, c.requires.site)), c.requires.quarter-hour) in
+    let hq : q < length (get_or s.table k []) = omega (arith, s.quarter_hours k (omega (arith, c.requires.site)), c.requires.quarter_hour) in
     fun_ext (λ j. fun_ext (λ p. put_at_cell None s.table k q c.args.content hk hq j p))

@@ -15,7 +15,7 @@ loop-segment-init g c = (refl, λ s d h. absurd (omega arith), first_none _)
 pub loop-segment-preserved : goal.loop-segment-preserved
 loop-segment-preserved g c =
     let rows = rows_of c.args.roll.now in
-    let gross = gross_at (g.B.LoadBook.grossing c.args.book.now) (g.B.LoadBook.standing c.args.book.now) c.args.quarter-hour in
+    let gross = gross_at (g.B.LoadBook.grossing c.args.book.now) (g.B.LoadBook.standing c.args.book.now) c.args.quarter_hour in
     let got = c.in-Ok.ensures in
     let inv = c.loop-segment.invariant in (
       length-set c.loop-segment.rows c.loop-segment.segment _ ∙ inv.0,
@@ -26,5 +26,5 @@ loop-segment-preserved g c =
 pub returns-in-Err : goal.returns-in-Err
 returns-in-Err g c =
     let rows = rows_of c.args.roll.now in
-    let gross = gross_at (g.B.LoadBook.grossing c.args.book.now) (g.B.LoadBook.standing c.args.book.now) c.args.quarter-hour in
+    let gross = gross_at (g.B.LoadBook.grossing c.args.book.now) (g.B.LoadBook.standing c.args.book.now) c.args.quarter_hour in
     first_found (segment_fault rows gross) c.in-Err.refusal c.loop-segment.segment 64 (omega arith) c.loop-segment.invariant.2 c.in-Err.ensures

@@ -8,7 +8,7 @@ use Rattle.balance.proofs.row.gathering.gather.Given as goal
 -- the rows below the segment are loaded, and none of them had a fault
 abbrev pub invariant-loop-segment : goal.invariant-loop-segment
 invariant-loop-segment g l =
-    let gross = gross_at (g.B.LoadBook.grossing l.book) (g.B.LoadBook.standing l.book) l.quarter-hour in
+    let gross = gross_at (g.B.LoadBook.grossing l.book) (g.B.LoadBook.standing l.book) l.quarter_hour in
     (length l.rows ≡ 64)
     × LoadedUpTo l.segment l.rows (rows_of l.roll) gross
     × (first_of (segment_fault (rows_of l.roll) gross) l.segment ≡ None)

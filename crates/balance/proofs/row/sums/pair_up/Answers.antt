@@ -28,10 +28,10 @@ loop-s-preserved c =
     let amounts = c.args.amounts.now in
     let s = c.loop-s.s in
     let amount = get_or amounts s (pos 0) in
-    let added = c.add-to-pair.ensures.value in
+    let added = c.add_to_pair.ensures.value in
     let small = c.requires.small s in
     let read : to_z w64 (of_z w64 amount) ≡ amount = omega (arith, ints, small, abs_is amount) in (
-      c.add-to-pair.ensures.shape,
+      c.add_to_pair.ensures.shape,
       λ d qse point.
           let row : c.index-rows-s.result ≡ get_or rows s d = c.index-rows-s.is ∙ get_or_default rows s c.index-rows-s.result d (omega arith) in
           let f : ℕ → ℤ = λ k. cond (belongs (get_or rows k d).row qse point) (get_or amounts k (pos 0)) (pos 0) in

@@ -9,8 +9,8 @@ use Rattle.balance.proofs.settled.settling.carry.Goals as goal
 by_parts : (rows : List LoadedRow) (A ps qs : List ℤ) → ps ≡ qs → ((s : ℕ) (d : LoadedRow) → s < 64 → get_or A s (pos 0) ≡ pos (row_load (get_or rows s d)) +ℤ get_or ps s (pos 0)) → (s : ℕ) (d : LoadedRow) → s < 64 → get_or A s (pos 0) ≡ pos (row_load (get_or rows s d)) +ℤ get_or qs s (pos 0)
 by_parts rows A ps qs e f s d h = f s d h ∙ ap (λ (xs : List ℤ). pos (row_load (get_or rows s d)) +ℤ get_or xs s (pos 0)) e
 
-pub add-parts-adjusted-requires : goal.add-parts-adjusted-requires
-add-parts-adjusted-requires c =
+pub add_parts-adjusted-requires : goal.add_parts-adjusted-requires
+add_parts-adjusted-requires c =
     let rows = c.args.rows.now in
     let g = c.args.generation in
     record {
@@ -19,44 +19,44 @@ add-parts-adjusted-requires c =
       small = subst (λ (ps : List ℤ). (s : ℕ) → nat_abs (get_or ps s (pos 0)) ≤ 416000000) (sym c.requires.parts) (parts_most rows g c.requires.rows c.requires.generation c.requires.carried);
     }
 
-pub pair-up-pairs-requires : goal.pair-up-pairs-requires
-pair-up-pairs-requires c =
+pub pair_up-pairs-requires : goal.pair_up-pairs-requires
+pair_up-pairs-requires c =
     let rows = c.args.rows.now in
-    let A = c.add-parts-adjusted.result in
-    let got = c.add-parts-adjusted.ensures in
+    let A = c.add_parts-adjusted.result in
+    let got = c.add_parts-adjusted.ensures in
     record {
       rows = c.requires.rows;
       amounts = got.length;
       small = adjusted_most rows c.args.generation c.requires.rows c.requires.generation c.requires.carried A got.length (by_parts rows A _ _ c.requires.parts got.value);
     }
 
-pub add-points-qse-loads-requires : goal.add-points-qse-loads-requires
-add-points-qse-loads-requires c =
+pub add_points-qse_loads-requires : goal.add_points-qse_loads-requires
+add_points-qse_loads-requires c =
     let rows = c.args.rows.now in
     let g = c.args.generation in
-    let A = c.add-parts-adjusted.result in
-    let got = c.add-parts-adjusted.ensures in
-    let P = c.pair-up-pairs.result in
+    let A = c.add_parts-adjusted.result in
+    let got = c.add_parts-adjusted.ensures in
+    let P = c.pair_up-pairs.result in
     let sums = by_parts rows A _ _ c.requires.parts got.value in
     record {
-      shape = c.pair-up-pairs.ensures.shape;
-      small = pairs_most rows g c.requires.rows c.requires.generation c.requires.carried A got.length sums P c.pair-up-pairs.ensures.value;
-      sums = λ q _. qse_most rows g c.requires.rows c.requires.generation c.requires.carried A got.length sums P c.pair-up-pairs.ensures.value q;
+      shape = c.pair_up-pairs.ensures.shape;
+      small = pairs_most rows g c.requires.rows c.requires.generation c.requires.carried A got.length sums P c.pair_up-pairs.ensures.value;
+      sums = λ q _. qse_most rows g c.requires.rows c.requires.generation c.requires.carried A got.length sums P c.pair_up-pairs.ensures.value q;
     }
 
 pub returns : goal.returns
 returns c =
     let rows = c.args.rows.now in
     let g = c.args.generation in
-    let A = c.add-parts-adjusted.result in
-    let got = c.add-parts-adjusted.ensures in
-    let P = c.pair-up-pairs.result in
+    let A = c.add_parts-adjusted.result in
+    let got = c.add_parts-adjusted.ensures in
+    let P = c.pair_up-pairs.result in
     let sums = by_parts rows A _ _ c.requires.parts got.value in
-    let qses = c.add-points-qse-loads.ensures in
+    let qses = c.add_points-qse_loads.ensures in
     record {
       generation = to_z-of_z w64 g c.ranges.generation;
       ufe = to_z-of_z w64 c.args.ufe c.ranges.ufe ∙ c.requires.ufe;
       adjusted = adjusted_are rows g c.requires.rows c.requires.generation c.requires.carried A got.length sums;
-      pairs = λ q p _ _. pairs_are rows g c.requires.rows c.requires.generation c.requires.carried A got.length sums P c.pair-up-pairs.ensures.value q p;
-      qse_loads_are = qse_are rows g c.requires.rows c.requires.generation c.requires.carried A got.length sums P c.pair-up-pairs.ensures.value c.add-points-qse-loads.result qses.length qses.value;
+      pairs = λ q p _ _. pairs_are rows g c.requires.rows c.requires.generation c.requires.carried A got.length sums P c.pair_up-pairs.ensures.value q p;
+      qse_loads_are = qse_are rows g c.requires.rows c.requires.generation c.requires.carried A got.length sums P c.pair_up-pairs.ensures.value c.add_points-qse_loads.result qses.length qses.value;
     }

@@ -31,12 +31,12 @@ carry-requires c =
     let rows = c.args.rows.now in
     let g : ℤ = to_z w64 (of_z w64 c.args.generation) in
     let u : ℤ = to_z w64 (of_z w64 (g -ℤ to_z w64 (of_z w64 c.from.result))) in
-    let l : ℕ = c.sum-loads.result in
-    let w : ℕ = c.sum-weights.result in
-    let eu : u ≡ g -ℤ pos l = omega (arith, ints, c.from.ensures, c.sum-loads.ensures.bound, c.requires.generation, abs_is c.args.generation) in
+    let l : ℕ = c.sum_loads.result in
+    let w : ℕ = c.sum_weights.result in
+    let eu : u ≡ g -ℤ pos l = omega (arith, ints, c.from.ensures, c.sum_loads.ensures.bound, c.requires.generation, abs_is c.args.generation) in
     let got = c.in-Ok.ensures in
-    let el = c.sum-loads.ensures.value in
-    let ew = c.sum-weights.ensures in
+    let el = c.sum_loads.ensures.value in
+    let ew = c.sum_weights.ensures in
     record {
       rows = c.requires.rows;
       generation = omega (arith, ints, c.requires.generation, abs_is c.args.generation);
@@ -50,10 +50,10 @@ returns-in-Ok c =
     let rows = c.args.rows.now in
     let g : ℤ = to_z w64 (of_z w64 c.args.generation) in
     let u : ℤ = to_z w64 (of_z w64 (g -ℤ to_z w64 (of_z w64 c.from.result))) in
-    let l : ℕ = c.sum-loads.result in
-    let eu : u ≡ g -ℤ pos l = omega (arith, ints, c.from.ensures, c.sum-loads.ensures.bound, c.requires.generation, abs_is c.args.generation) in
+    let l : ℕ = c.sum_loads.result in
+    let eu : u ≡ g -ℤ pos l = omega (arith, ints, c.from.ensures, c.sum_loads.ensures.bound, c.requires.generation, abs_is c.args.generation) in
     let read = to_z-of_z w64 c.args.generation c.ranges.generation in
-    let none = stranded_same rows g u l c.sum-weights.result c.requires.rows c.sum-loads.ensures.value c.sum-weights.ensures eu None c.in-Ok.ensures.0 in (
+    let none = stranded_same rows g u l c.sum_weights.result c.requires.rows c.sum_loads.ensures.value c.sum_weights.ensures eu None c.in-Ok.ensures.0 in (
       subst (λ (z : ℤ). stranded (sheet_in rows z) ≡ None) read none,
       subst (λ (z : ℤ). Holds (sheet_in rows z) c.carry.result) read c.carry.ensures,
     )
@@ -63,8 +63,8 @@ returns-in-Err c =
     let rows = c.args.rows.now in
     let g : ℤ = to_z w64 (of_z w64 c.args.generation) in
     let u : ℤ = to_z w64 (of_z w64 (g -ℤ to_z w64 (of_z w64 c.from.result))) in
-    let l : ℕ = c.sum-loads.result in
-    let eu : u ≡ g -ℤ pos l = omega (arith, ints, c.from.ensures, c.sum-loads.ensures.bound, c.requires.generation, abs_is c.args.generation) in
+    let l : ℕ = c.sum_loads.result in
+    let eu : u ≡ g -ℤ pos l = omega (arith, ints, c.from.ensures, c.sum_loads.ensures.bound, c.requires.generation, abs_is c.args.generation) in
     let read = to_z-of_z w64 c.args.generation c.ranges.generation in
     subst (λ (z : ℤ). stranded (sheet_in rows z) ≡ Some c.in-Err.refusal) read
-    (stranded_same rows g u l c.sum-weights.result c.requires.rows c.sum-loads.ensures.value c.sum-weights.ensures eu (Some c.in-Err.refusal) c.in-Err.ensures)
+    (stranded_same rows g u l c.sum_weights.result c.requires.rows c.sum_loads.ensures.value c.sum_weights.ensures eu (Some c.in-Err.refusal) c.in-Err.ensures)

@@ -17,8 +17,8 @@ row c =
 most : (c : After-count-counted) → c.count-counted.result ≤ 100
 most c = omega (arith, c.count-counted.ensures, mark_count_most c.marks.result.early c.marks.result.late)
 
-pub overflow-add-counted : goal.overflow-add-counted
-overflow-add-counted c = omega (arith, most c)
+pub overflow_add-counted : goal.overflow_add-counted
+overflow_add-counted c = omega (arith, most c)
 
 pub loop-segment-preserved : goal.loop-segment-preserved
 loop-segment-preserved c = (

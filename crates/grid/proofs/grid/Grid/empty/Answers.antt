@@ -15,14 +15,14 @@ without-marks-requires c =
     let g = c.args.self.now in
     record {
       inside = omega arith;
-      marked = ap (λ (m : Marks). mark m.early m.late c.args.quarter-hour) c.marks.ensures
-          ∙ sym (marked_inside g.early g.late c.args.segment c.args.quarter-hour (omega arith) (omega arith))
-          ∙ marked_from_some g.cells.now g.early g.late c.args.segment c.args.quarter-hour (search rules);
+      marked = ap (λ (m : Marks). mark m.early m.late c.args.quarter_hour) c.marks.ensures
+          ∙ sym (marked_inside g.early g.late c.args.segment c.args.quarter_hour (omega arith) (omega arith))
+          ∙ marked_from_some g.cells.now g.early g.late c.args.segment c.args.quarter_hour (search rules);
     }
 
-after : (c : After-without-marks) → standing_in c.args.self.now.cells.now (set c.args.self.now.early c.args.segment c.without-marks.result.early) (set c.args.self.now.late c.args.segment c.without-marks.result.late) ≡ put (standing_of c.args.self.now) c.args.segment c.args.quarter-hour None
+after : (c : After-without-marks) → standing_in c.args.self.now.cells.now (set c.args.self.now.early c.args.segment c.without-marks.result.early) (set c.args.self.now.late c.args.segment c.without-marks.result.late) ≡ put (standing_of c.args.self.now) c.args.segment c.args.quarter_hour None
 after c =
-    emptied c.args.self.now c.args.segment c.args.quarter-hour c.marks.result c.without-marks.result (omega arith) (omega arith) c.marks.ensures c.without-marks.ensures.marks
+    emptied c.args.self.now c.args.segment c.args.quarter_hour c.marks.result c.without-marks.result (omega arith) (omega arith) c.marks.ensures c.without-marks.ensures.marks
 
 pub returns : goal.returns
 returns c = record {
@@ -30,8 +30,8 @@ returns c = record {
   places = refl;
 }
 
-pub invariant-of-self : goal.invariant-of-self
-invariant-of-self c =
-    sound_after c.args.self.now c.args.segment c.args.quarter-hour c.marks.result c.without-marks.result (omega arith) (omega arith) c.marks.ensures
+pub invariant_of-self : goal.invariant_of-self
+invariant_of-self c =
+    sound_after c.args.self.now c.args.segment c.args.quarter_hour c.marks.result c.without-marks.result (omega arith) (omega arith) c.marks.ensures
     c.args.self.now.cells.now None c.without-marks.ensures.width (after (at·ghost-self c).After-without-marks)
-    (λ n e. none_not_some n 1000000 e) (emptied_housed c.args.self.now c.args.segment c.args.quarter-hour (omega arith) (omega arith))
+    (λ n e. none_not_some n 1000000 e) (emptied_housed c.args.self.now c.args.segment c.args.quarter_hour (omega arith) (omega arith))

@@ -6,11 +6,11 @@ use Rattle.grid.proofs.grid.Grid.held.Goals as goal
 pub bounds-self-place : goal.bounds-self-place
 bounds-self-place c =
     let grid = c.args.self.now in
-    let whole = marked_in_list grid.cells.now grid.early grid.late c.args.segment c.args.quarter-hour (omega arith) (omega arith) grid.housed (sym c.if-is-marked.ensures) in
+    let whole = marked_in_list grid.cells.now grid.early grid.late c.args.segment c.args.quarter_hour (omega arith) (omega arith) grid.housed (sym c.if-is_marked.ensures) in
     omega (arith, c.place.ensures)
 
-pub returns-then-is-marked : goal.returns-then-is-marked
-returns-then-is-marked c = search (rules, standing_marked)
+pub returns-then-is_marked : goal.returns-then-is_marked
+returns-then-is_marked c = search (rules, standing_marked)
 
-pub returns-else-is-marked : goal.returns-else-is-marked
-returns-else-is-marked c = search (rules, standing_unmarked)
+pub returns-else-is_marked : goal.returns-else-is_marked
+returns-else-is_marked c = search (rules, standing_unmarked)

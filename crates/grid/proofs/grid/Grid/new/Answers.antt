@@ -11,5 +11,5 @@ returns c = record {
   grossing = refl;
 }
 
-pub invariant-of-result : goal.invariant-of-result
-invariant-of-result c = sound_blank c.args.cells.now
+pub invariant_of-result : goal.invariant_of-result
+invariant_of-result c = sound_blank c.args.cells.now

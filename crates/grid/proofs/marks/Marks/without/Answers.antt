@@ -6,24 +6,24 @@ use Rattle.grid.proofs.marks.Marks.without.Goals as goal
 
 pub cleared-requires : goal.cleared-requires
 cleared-requires c = record {
-  inside = c.if-quarter-hour-lt64.true;
-  set = eqb-true _ 1 (sym (mark_early _ _ _ c.if-quarter-hour-lt64.true) ∙ c.requires.marked);
+  inside = c.if-quarter_hour-lt64.true;
+  set = eqb-true _ 1 (sym (mark_early _ _ _ c.if-quarter_hour-lt64.true) ∙ c.requires.marked);
 }
 
-pub cleared-requires-else-quarter-hour-lt64 : goal.cleared-requires-else-quarter-hour-lt64
-cleared-requires-else-quarter-hour-lt64 c = record {
+pub cleared-requires-else-quarter_hour-lt64 : goal.cleared-requires-else-quarter_hour-lt64
+cleared-requires-else-quarter_hour-lt64 c = record {
   inside = omega arith;
-  set = eqb-true _ 1 (sym (mark_late _ _ _ c.if-quarter-hour-lt64.false) ∙ c.requires.marked);
+  set = eqb-true _ 1 (sym (mark_late _ _ _ c.if-quarter_hour-lt64.false) ∙ c.requires.marked);
 }
 
-pub returns-then-quarter-hour-lt64 : goal.returns-then-quarter-hour-lt64
-returns-then-quarter-hour-lt64 c = record {
-  marks = early_changed _ _ _ _ 0 c.if-quarter-hour-lt64.true c.cleared.ensures.bits;
+pub returns-then-quarter_hour-lt64 : goal.returns-then-quarter_hour-lt64
+returns-then-quarter_hour-lt64 c = record {
+  marks = early_changed _ _ _ _ 0 c.if-quarter_hour-lt64.true c.cleared.ensures.bits;
   width = λ h. h;
 }
 
-pub returns-else-quarter-hour-lt64 : goal.returns-else-quarter-hour-lt64
-returns-else-quarter-hour-lt64 c = record {
-  marks = late_changed _ _ _ _ 0 c.if-quarter-hour-lt64.false c.cleared-else-quarter-hour-lt64.ensures.bits;
-  width = c.cleared-else-quarter-hour-lt64.ensures.width 36 (omega arith);
+pub returns-else-quarter_hour-lt64 : goal.returns-else-quarter_hour-lt64
+returns-else-quarter_hour-lt64 c = record {
+  marks = late_changed _ _ _ _ 0 c.if-quarter_hour-lt64.false c.cleared-else-quarter_hour-lt64.ensures.bits;
+  width = c.cleared-else-quarter_hour-lt64.ensures.width 36 (omega arith);
 }

@@ -12,7 +12,7 @@ loop-segment-preserved c =
     let codes = c.loop-segment.codes in
     let rows = rows_of c.args.roll.now in (
       length-set codes s _ ∙ c.loop-segment.invariant.0,
-      rw c.code-on-roll.ensures (fill_by_more (λ k. roll_code (get_or rows k None)) codes s None (omega arith) c.loop-segment.invariant.1),
+      rw c.code_on_roll.ensures (fill_by_more (λ k. roll_code (get_or rows k None)) codes s None (omega arith) c.loop-segment.invariant.1),
     )
 
 pub returns : goal.returns

@@ -5,8 +5,8 @@ use Rattle.book.proofs.Tables.{filled_cell, filled_length}
 use Rattle.losses.specs.Factors.{Lawful}
 use Rattle.losses.proofs.table.FactorTable.empty.Goals as goal
 
-pub invariant-of-result : goal.invariant-of-result
-invariant-of-result g c = (
+pub invariant_of-result : goal.invariant_of-result
+invariant_of-result g c = (
   length-replicate g.row.ROWS _,
   (λ k h. filled_length None g.row.ROWS 100 k h, (λ k q. subst Lawful (sym (filled_cell None g.row.ROWS 100 k q)) zero-le, tt)),
 )

@@ -3,8 +3,8 @@ use Rattle.std.proofs.Common.{ℕ, min, ap, length-set}
 use Rattle.slips.proofs.Arranging.{added, arranged_added}
 use Rattle.slips.proofs.list.SlipBook.add.Goals as goal
 
-pub invariant-of-self : goal.invariant-of-self
-invariant-of-self c =
+pub invariant_of-self : goal.invariant_of-self
+invariant_of-self c =
     let b = c.args.self.now in
     (arranged_added b.slips.now b.used c.args.slip b.arranged c.requires.place c.requires.range c.requires.free, tt)
 
@@ -13,5 +13,5 @@ returns c =
     let b = c.args.self.now in
     record {
       after = added b.slips.now b.used c.args.slip c.requires.place;
-      places-kept = ap (λ (n : ℕ). min n 6400) (length-set b.slips.now _ _);
+      places_kept = ap (λ (n : ℕ). min n 6400) (length-set b.slips.now _ _);
     }

@@ -3,8 +3,8 @@ use Rattle.std.proofs.Common.{ℕ, min, refl, ap, length-set}
 use Rattle.slips.proofs.Arranging.{corrected, arranged_corrected}
 use Rattle.slips.proofs.list.SlipBook.correct.Goals as goal
 
-pub invariant-of-self : goal.invariant-of-self
-invariant-of-self c =
+pub invariant_of-self : goal.invariant_of-self
+invariant_of-self c =
     let b = c.args.self.now in
     (arranged_corrected b.slips.now b.used c.args.i c.args.reading b.arranged c.requires.place c.requires.limit, tt)
 
@@ -14,5 +14,5 @@ returns c =
     record {
       answer = refl;
       after = corrected b.slips.now b.used c.args.i c.args.reading b.arranged c.requires.place;
-      places-kept = ap (λ (n : ℕ). min n 6400) (length-set b.slips.now _ _);
+      places_kept = ap (λ (n : ℕ). min n 6400) (length-set b.slips.now _ _);
     }

@@ -10,14 +10,14 @@ unfolding standing_of
 loop-i-init c = refl
 
 pub loop-i-preserved : goal.loop-i-preserved
-loop-i-preserved c = still_free c.args.self.now.slips.now c.loop-i.i c.args.segment c.args.quarter-hour c.loop-i.invariant (grind (arith, nat_tests))
+loop-i-preserved c = still_free c.args.self.now.slips.now c.loop-i.i c.args.segment c.args.quarter_hour c.loop-i.invariant (grind (arith, nat_tests))
 
-pub returns-then-slip-quarter-hour : goal.returns-then-slip-quarter-hour
-returns-then-slip-quarter-hour c =
+pub returns-then-slip-quarter_hour : goal.returns-then-slip-quarter_hour
+returns-then-slip-quarter_hour c =
     let b = c.args.self.now in
     let x = slip_at b.slips.now c.loop-i.i in
     let below : c.loop-i.i < b.used = omega arith in
     let segment : x.segment ≡ c.args.segment = omega arith in
-    let quarter : x.quarter_hour ≡ c.args.quarter-hour = omega arith in
+    let quarter : x.quarter_hour ≡ c.args.quarter_hour = omega arith in
     let stands = standing_found b.slips.now b.used c.loop-i.i b.arranged below in
     (below, segment, quarter, cc)

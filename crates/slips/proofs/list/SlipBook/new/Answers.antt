@@ -4,8 +4,8 @@ use Rattle.slips.specs.Slips.{standing_of}
 use Rattle.slips.proofs.Arranging.{arranged_none}
 use Rattle.slips.proofs.list.SlipBook.new.Goals as goal
 
-pub invariant-of-result : goal.invariant-of-result
-invariant-of-result c = (arranged_none c.args.slips.now, tt)
+pub invariant_of-result : goal.invariant_of-result
+invariant_of-result c = (arranged_none c.args.slips.now, tt)
 
 pub returns : goal.returns
 unfolding standing_of

@@ -3,8 +3,8 @@ use Rattle.std.proofs.Common.{ℕ, min, refl, ap, arith, length-set}
 use Rattle.slips.proofs.Arranging.{removed}
 use Rattle.slips.proofs.list.SlipBook.remove.Goals as goal
 
-pub invariant-of-self : goal.invariant-of-self
-invariant-of-self c =
+pub invariant_of-self : goal.invariant_of-self
+invariant_of-self c =
     let b = c.args.self.now in
     ((removed b.slips.now b.used _ b.arranged (omega arith)).1, tt)
 
@@ -14,5 +14,5 @@ returns c =
     record {
       answer = refl;
       after = (removed b.slips.now b.used _ b.arranged (omega arith)).0;
-      places-kept = ap (λ (n : ℕ). min n 6400) (length-set b.slips.now _ _);
+      places_kept = ap (λ (n : ℕ). min n 6400) (length-set b.slips.now _ _);
     }

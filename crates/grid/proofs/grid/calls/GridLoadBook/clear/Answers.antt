@@ -7,9 +7,9 @@ use Rattle.grid.proofs.grid.calls.GridLoadBook.clear.Goals as goal
 pub returns : goal.returns
 returns c = record {
   after = blank_standing c.args.self.now.cells.now 64;
-  places-kept = refl;
-  grossing-kept = refl;
+  places_kept = refl;
+  grossing_kept = refl;
 }
 
-pub invariant-of-self : goal.invariant-of-self
-invariant-of-self c = sound_blank c.args.self.now.cells.now
+pub invariant_of-self : goal.invariant_of-self
+invariant_of-self c = sound_blank c.args.self.now.cells.now

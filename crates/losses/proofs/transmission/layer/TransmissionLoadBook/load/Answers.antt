@@ -7,8 +7,8 @@ use Rattle.losses.proofs.transmission.layer.TransmissionLoadBook.load.Goals as g
 pub returns : goal.returns
 returns g c =
     let s = c.args.segment in
-    let q = c.args.quarter-hour in
+    let q = c.args.quarter_hour in
     let below = c.args.self.now.below in
     let gross = g.B.LoadBook.grossing below s q (g.B.LoadBook.standing below s q) in
     c.adjust.ensures q gross c.load.ensures
-    ∙ ap (λ (l : Loss). load_answer s q (adjusted l gross)) (c.by-factor-loss.ensures.loss ∙ ap given c.at.ensures.value)
+    ∙ ap (λ (l : Loss). load_answer s q (adjusted l gross)) (c.by_factor-loss.ensures.loss ∙ ap given c.at.ensures.value)

@@ -4,9 +4,9 @@ use Rattle.slips.specs.Slips.{standing_of}
 use Rattle.slips.proofs.Arranging.{arranged_less}
 use Rattle.slips.proofs.list.calls.SlipBookLoadBook.clear.Goals as goal
 
-pub invariant-of-self : goal.invariant-of-self
-invariant-of-self c = (arranged_less c.args.self.now.slips.now c.args.self.now.used _ c.args.self.now.arranged (omega arith), tt)
+pub invariant_of-self : goal.invariant_of-self
+invariant_of-self c = (arranged_less c.args.self.now.slips.now c.args.self.now.used _ c.args.self.now.arranged (omega arith), tt)
 
 pub returns : goal.returns
 unfolding standing_of
-returns c = record { after = refl; places-kept = refl; grossing-kept = refl }
+returns c = record { after = refl; places_kept = refl; grossing_kept = refl }

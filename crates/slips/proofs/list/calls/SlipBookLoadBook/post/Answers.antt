@@ -5,18 +5,18 @@ use Rattle.slips.specs.Bounds.{housed_in}
 use Rattle.slips.proofs.Arranging.{found_stands}
 use Rattle.slips.proofs.list.calls.SlipBookLoadBook.post.Goals as goal
 
-pub returns-then-lacks-place-for : goal.returns-then-lacks-place-for
-returns-then-lacks-place-for c =
+pub returns-then-lacks_place_for : goal.returns-then-lacks_place_for
+returns-then-lacks_place_for c =
     let b = c.args.self.now in
     let housed = housed_in b in
     let counted = b.arranged.2 in
-    let stands = found_stands b.slips.now b.used c.args.segment c.args.quarter-hour c.find-found.result c.find-found.ensures in
-    let shut = c.if-lacks-place-for.ensures in
+    let stands = found_stands b.slips.now b.used c.args.segment c.args.quarter_hour c.find-found.result c.find-found.ensures in
+    let shut = c.if-lacks_place_for.ensures in
     record {
       answer = grind (arith, nat_tests);
       after = refl;
-      places-kept = refl;
-      grossing-kept = refl;
+      places_kept = refl;
+      grossing_kept = refl;
     }
 
 pub returns-in-Some : goal.returns-in-Some
@@ -25,6 +25,6 @@ returns-in-Some c =
     record {
       answer = search (rules, found);
       after = cc;
-      places-kept = search rules;
-      grossing-kept = refl;
+      places_kept = search rules;
+      grossing_kept = refl;
     }

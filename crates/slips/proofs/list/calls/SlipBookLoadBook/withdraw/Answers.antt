@@ -8,6 +8,6 @@ returns-in-Some c =
     record {
       answer = search (rules, found);
       after = cc;
-      places-kept = search rules;
-      grossing-kept = refl;
+      places_kept = search rules;
+      grossing_kept = refl;
     }
