@@ -6,7 +6,7 @@ pub returns-then-quarter_hour-gt99 : goal.returns-then-quarter_hour-gt99
 returns-then-quarter_hour-gt99 c =
     let self = c.args.self.now in
     let k = c.args.site in
-    let q = c.args.quarter-hour in
+    let q = c.args.quarter_hour in
     record {
       value = ⊎_elim
           (λ past. sym (past_rows self.table k q (omega (arith, self.sites))))

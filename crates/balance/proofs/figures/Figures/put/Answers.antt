@@ -10,13 +10,11 @@ invariant_of-self c =
     let q = c.args.quarter_hour in
     let f = c.args.content in
     let hk : k < length s.table = omega (arith, s.sites, c.requires.site) in
-    let hq : q < length (get_or s.table k []) = omega (arith, s.quarter_hours k (omega (arith, c.requires.site)), c.requires.quarter_hour) in (
-      length-set s.table k _ ∙ s.sites,
-      (
-        λ j h. put_row_length None s.table k q f hk hq j ∙ s.quarter_hours j h,
-        (put_keeps None s.table k q f hk hq (λ o. nat_abs (unwrap_or o (pos 0)) ≤ 10000000) c.requires.within s.within, tt),
-      ),
-    )
+    let hq : q < length (get_or s.table k []) = omega (arith, s.quarter_hours k (omega (arith, c.requires.site)), c.requires.quarter_hour) in record {
+      sites = length-set s.table k _ ∙ s.sites;
+      quarter_hours = λ j h. put_row_length None s.table k q f hk hq j ∙ s.quarter_hours j h;
+      within = put_keeps None s.table k q f hk hq (λ o. nat_abs (unwrap_or o (pos 0)) ≤ 10000000) c.requires.within s.within;
+    }
 
 pub returns : goal.returns
 returns c =
