@@ -26,12 +26,12 @@ loop-q-preserved g c =
     ap is_ok answer
     ∙ ap (λ (x : Standing). is_ok (post_answer x (g.B.LoadBook.places c.loop-q.book) s q (get_or rs q 0))) inv.0
     ∙ ap (λ (p : ℕ). is_ok (post_answer (put_first st s rs q) p s q (get_or rs q 0))) inv.1
-    ∙ next_taken st places s (length rs) rs c.requires.segment c.requires.places q (get_or rs q 0) below (omega (arith, c.requires.quarter-hours)) small in
+    ∙ next_taken st places s (length rs) rs c.requires.segment c.requires.places q (get_or rs q 0) below (omega (arith, c.requires.quarter_hours)) small in
     let after : g.B.LoadBook.standing c.post.new.self ≡ cond (is_ok c.post.result) (put now-st s q (Some (get_or rs q 0))) now-st = c.post.ensures.after in (
       after ∙ cond-true (is_ok c.post.result) (put now-st s q (Some (get_or rs q 0))) now-st taken
           ∙ ap (λ (x : Standing). put x s q (Some (get_or rs q 0))) inv.0 ∙ put_first_more st s rs q,
-      c.post.ensures.places-kept ∙ inv.1,
-      c.post.ensures.grossing-kept ∙ inv.2,
+      c.post.ensures.places_kept ∙ inv.1,
+      c.post.ensures.grossing_kept ∙ inv.2,
     )
 
 pub returns : goal.returns
@@ -39,6 +39,6 @@ returns g c =
     let all : c.loop-q.q ≡ length c.args.readings.now = omega arith in
     record {
       after = c.loop-q.invariant.0 ∙ ap (put_first (g.B.LoadBook.standing c.args.book.now) c.args.segment c.args.readings.now) all;
-      places-kept = c.loop-q.invariant.1;
-      grossing-kept = c.loop-q.invariant.2;
+      places_kept = c.loop-q.invariant.1;
+      grossing_kept = c.loop-q.invariant.2;
     }
