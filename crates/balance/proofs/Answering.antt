@@ -19,7 +19,7 @@ use Rattle.balance.specs.Totals.{total, or_else, first_of}
 use Rattle.balance.proofs.Balanced.{balanced}
 use Rattle.balance.proofs.Settling.{carried_when}
 
-unlisted_load : (row : Option Row) (g : Gross) → is_some row ≡ false → load_in row g ≡ 0
+pub unlisted_load : (row : Option Row) (g : Gross) → is_some row ≡ false → load_in row g ≡ 0
 unlisted_load None g e = refl
 unlisted_load (Some row) g e = absurd (true≢false e)
 

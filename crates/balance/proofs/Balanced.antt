@@ -42,7 +42,7 @@ by_point row v q h =
     ∙ total_cond (eqb q row.qse) (λ p. cond (eqb p row.point) v (pos 0)) 8
     ∙ ap (λ (z : ℤ). cond (eqb q row.qse) z (pos 0)) (total_pick row.point v 8 (omega arith))
 
-pair_once : (row : Option Row) (v : ℤ) → ranged row ≡ true → (is_some row ≡ false → v ≡ pos 0) → total (λ q. total (λ p. cond (belongs row q p) v (pos 0)) 8) 16 ≡ v
+pub pair_once : (row : Option Row) (v : ℤ) → ranged row ≡ true → (is_some row ≡ false → v ≡ pos 0) → total (λ q. total (λ p. cond (belongs row q p) v (pos 0)) 8) 16 ≡ v
 pair_once None v h none = total_zero (λ q. total (λ p. pos 0) 8) 16 (λ q _. total_none 8) ∙ sym (none refl)
 pair_once (Some row) v h none =
     let qse = leb-true row.qse 15 (and_parts (leb row.qse 15) _ h).0 in

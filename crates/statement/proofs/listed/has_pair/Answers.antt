@@ -13,14 +13,14 @@ pub loop-segment-preserved : goal.loop-segment-preserved
 loop-segment-preserved c =
     let f : ℕ → Bool = λ s. belongs (get_or (rows_of c.args.roll.now) s None) c.args.qse c.args.point in
     some_passed f c.loop-segment.segment c.loop-segment.invariant
-    (sym (ap (λ (o : Option Row). belongs o c.args.qse c.args.point) c.row.ensures.row) ∙ sym c.row-in-pair.ensures ∙ c.if-row-in-pair.false)
+    (sym (ap (λ (o : Option Row). belongs o c.args.qse c.args.point) c.row.ensures.row) ∙ sym c.row_in_pair.ensures ∙ c.if-row_in_pair.false)
 
-pub returns-then-row-in-pair : goal.returns-then-row-in-pair
+pub returns-then-row_in_pair : goal.returns-then-row_in_pair
 unfolding lists_pair
-returns-then-row-in-pair c =
+returns-then-row_in_pair c =
     let f : ℕ → Bool = λ s. belongs (get_or (rows_of c.args.roll.now) s None) c.args.qse c.args.point in
     sym (some_found f c.loop-segment.segment 64 c.loop-segment-test.true
-    (sym (ap (λ (o : Option Row). belongs o c.args.qse c.args.point) c.row.ensures.row) ∙ sym c.row-in-pair.ensures ∙ c.if-row-in-pair.true))
+    (sym (ap (λ (o : Option Row). belongs o c.args.qse c.args.point) c.row.ensures.row) ∙ sym c.row_in_pair.ensures ∙ c.if-row_in_pair.true))
 
 pub returns : goal.returns
 unfolding lists_pair

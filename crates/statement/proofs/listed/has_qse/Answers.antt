@@ -12,14 +12,14 @@ pub loop-segment-preserved : goal.loop-segment-preserved
 loop-segment-preserved c =
     let f : ℕ → Bool = λ s. of_qse (get_or (rows_of c.args.roll.now) s None) c.args.qse in
     some_passed f c.loop-segment.segment c.loop-segment.invariant
-    (sym (ap (λ (o : Option Row). of_qse o c.args.qse) c.row.ensures.row) ∙ sym c.row-of-qse.ensures ∙ c.if-row-of-qse.false)
+    (sym (ap (λ (o : Option Row). of_qse o c.args.qse) c.row.ensures.row) ∙ sym c.row_of_qse.ensures ∙ c.if-row_of_qse.false)
 
-pub returns-then-row-of-qse : goal.returns-then-row-of-qse
+pub returns-then-row_of_qse : goal.returns-then-row_of_qse
 unfolding lists_qse
-returns-then-row-of-qse c =
+returns-then-row_of_qse c =
     let f : ℕ → Bool = λ s. of_qse (get_or (rows_of c.args.roll.now) s None) c.args.qse in
     sym (some_found f c.loop-segment.segment 64 c.loop-segment-test.true
-    (sym (ap (λ (o : Option Row). of_qse o c.args.qse) c.row.ensures.row) ∙ sym c.row-of-qse.ensures ∙ c.if-row-of-qse.true))
+    (sym (ap (λ (o : Option Row). of_qse o c.args.qse) c.row.ensures.row) ∙ sym c.row_of_qse.ensures ∙ c.if-row_of_qse.true))
 
 pub returns : goal.returns
 unfolding lists_qse

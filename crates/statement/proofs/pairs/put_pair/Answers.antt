@@ -12,20 +12,20 @@ use Rattle.statement.proofs.pairs.put_pair.Goals as goal
 in_table : (qse point : ℕ) (z v : ℤ) → qse < 16 → point < 8 → Ok z ≡ ok_unless (nowhere qse point) v → z ≡ v
 in_table qse point z v hq hp e = grind (arith, nat_tests)
 
-pub returns-then-not-has-pair : goal.returns-then-not-has-pair
+pub returns-then-not-has_pair : goal.returns-then-not-has_pair
 unfolding pair_line
-returns-then-not-has-pair c =
-    wrote_same _ _ [] _ _ _ (sym (cond-false _ _ [] (sym c.if-not-has-pair.ensures))) (wrote_none c.args.text.now c.args.start)
+returns-then-not-has_pair c =
+    wrote_same _ _ [] _ _ _ (sym (cond-false _ _ [] (sym c.if-not-has_pair.ensures))) (wrote_none c.args.text.now c.args.start)
 
-pub put-line-requires : goal.put-line-requires
+pub put_line-requires : goal.put_line-requires
 unfolding pair_line
-put-line-requires c =
+put_line-requires c =
     let qse : SFits w64 c.from.result = search rules in
     let point : SFits w64 c.from-in-Ok.result = search rules in
     let fits : SFits w64 c.in-Ok.load = search rules in
     let load = in_table c.args.qse c.args.point c.in-Ok.load _ c.requires.qse c.requires.point c.in-Ok.ensures in
     let e = ap (line 65) (three_passed c.from.result c.from-in-Ok.result c.in-Ok.load (pos c.args.qse) (pos c.args.point) _ qse point fits c.from.ensures c.from-in-Ok.ensures load) in
-    omega (arith, c.requires.room, ap length (e ∙ sym (cond-true _ _ [] (sym c.if-not-has-pair.ensures))))
+    omega (arith, c.requires.room, ap length (e ∙ sym (cond-true _ _ [] (sym c.if-not-has_pair.ensures))))
 
 pub returns : goal.returns
 unfolding pair_line
@@ -35,4 +35,4 @@ returns c =
     let fits : SFits w64 c.in-Ok.load = search rules in
     let load = in_table c.args.qse c.args.point c.in-Ok.load _ c.requires.qse c.requires.point c.in-Ok.ensures in
     let e = ap (line 65) (three_passed c.from.result c.from-in-Ok.result c.in-Ok.load (pos c.args.qse) (pos c.args.point) _ qse point fits c.from.ensures c.from-in-Ok.ensures load) in
-    wrote_same _ _ _ _ _ _ (e ∙ sym (cond-true _ _ [] (sym c.if-not-has-pair.ensures))) c.put-line.ensures
+    wrote_same _ _ _ _ _ _ (e ∙ sym (cond-true _ _ [] (sym c.if-not-has_pair.ensures))) c.put_line.ensures

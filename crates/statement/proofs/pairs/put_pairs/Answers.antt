@@ -10,9 +10,9 @@ use Rattle.statement.proofs.pairs.put_pairs.Goals as goal
 pub loop-qse-init : goal.loop-qse-init
 loop-qse-init c = wrote_same _ _ [] _ _ _ (sym (lines_none _)) (wrote_none _ _)
 
-pub put-points-next-requires : goal.put-points-next-requires
+pub put_points-next-requires : goal.put_points-next-requires
 unfolding pair_lines
-put-points-next-requires c =
+put_points-next-requires c =
     let g : ℕ → List ℕ = λ q. point_lines (rows_of c.args.roll.now) (loads_of c.args.balance.now) q in
     let qse = c.loop-qse.qse in
     record {
@@ -26,8 +26,8 @@ loop-qse-preserved c =
     let g : ℕ → List ℕ = λ q. point_lines (rows_of c.args.roll.now) (loads_of c.args.balance.now) q in
     let qse = c.loop-qse.qse in
     wrote_same _ _ _ _ _ _ (sym (lines_more g qse))
-    (wrote_then c.args.text.now c.args.start (lines g qse) c.loop-qse.text c.loop-qse.next (g qse) c.put-points-next.new.text c.put-points-next.result (omega (arith, c.requires))
-    c.loop-qse.invariant c.put-points-next.ensures)
+    (wrote_then c.args.text.now c.args.start (lines g qse) c.loop-qse.text c.loop-qse.next (g qse) c.put_points-next.new.text c.put_points-next.result (omega (arith, c.requires))
+    c.loop-qse.invariant c.put_points-next.ensures)
 
 pub returns : goal.returns
 unfolding pair_lines

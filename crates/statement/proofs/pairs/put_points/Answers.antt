@@ -10,9 +10,9 @@ use Rattle.statement.proofs.pairs.put_points.Goals as goal
 pub loop-point-init : goal.loop-point-init
 loop-point-init c = wrote_same _ _ [] _ _ _ (sym (lines_none _)) (wrote_none _ _)
 
-pub put-pair-next-requires : goal.put-pair-next-requires
+pub put_pair-next-requires : goal.put_pair-next-requires
 unfolding point_lines
-put-pair-next-requires c =
+put_pair-next-requires c =
     let g : ℕ → List ℕ = λ p. pair_line (rows_of c.args.roll.now) (loads_of c.args.balance.now) c.args.qse p in
     let point = c.loop-point.point in
     record {
@@ -27,8 +27,8 @@ loop-point-preserved c =
     let g : ℕ → List ℕ = λ p. pair_line (rows_of c.args.roll.now) (loads_of c.args.balance.now) c.args.qse p in
     let point = c.loop-point.point in
     wrote_same _ _ _ _ _ _ (sym (lines_more g point))
-    (wrote_then c.args.text.now c.args.start (lines g point) c.loop-point.text c.loop-point.next (g point) c.put-pair-next.new.text c.put-pair-next.result (omega (arith, c.requires.room))
-    c.loop-point.invariant c.put-pair-next.ensures)
+    (wrote_then c.args.text.now c.args.start (lines g point) c.loop-point.text c.loop-point.next (g point) c.put_pair-next.new.text c.put_pair-next.result (omega (arith, c.requires.room))
+    c.loop-point.invariant c.put_pair-next.ensures)
 
 pub returns : goal.returns
 unfolding point_lines

@@ -13,16 +13,16 @@ pub returns-then-n-eq0 : goal.returns-then-n-eq0
 returns-then-n-eq0 t c =
     wrote_same _ _ [] _ _ _ (sym (ap places c.if-n-eq0.true ∙ places_none)) (wrote_none c.args.text.now c.args.start)
 
-pub put-places-next-requires : goal.put-places-next-requires
-put-places-next-requires t c = (search rules, omega (arith, longer c.args.n c.if-n-eq0.false, c.requires))
+pub put_places-next-requires : goal.put_places-next-requires
+put_places-next-requires t c = (search rules, omega (arith, longer c.args.n c.if-n-eq0.false, c.requires))
 
 pub bounds-text-next : goal.bounds-text-next
-bounds-text-next t c = omega (arith, longer c.args.n c.if-n-eq0.false, c.requires, c.put-places-next.ensures.ends)
+bounds-text-next t c = omega (arith, longer c.args.n c.if-n-eq0.false, c.requires, c.put_places-next.ensures.ends)
 
-pub overflow-add-result : goal.overflow-add-result
-overflow-add-result t c =
-    let room : c.put-places-next.result < length c.put-places-next.new.text =
-    omega (arith, longer c.args.n c.if-n-eq0.false, c.requires, c.put-places-next.ensures.ends) in
+pub overflow_add-result : goal.overflow_add-result
+overflow_add-result t c =
+    let room : c.put_places-next.result < length c.put_places-next.new.text =
+    omega (arith, longer c.args.n c.if-n-eq0.false, c.requires, c.put_places-next.ensures.ends) in
     search rules
 
 pub returns : goal.returns
@@ -30,5 +30,5 @@ returns t c =
     let n = c.args.n in
     let some : 0 < n = omega (arith, c.if-n-eq0.false) in
     wrote_same _ _ _ _ _ _ (sym (places_step n some))
-    (wrote_push c.args.text.now c.args.start (places (n / 10)) c.put-places-next.new.text c.put-places-next.result (48 + n % 10) (omega (arith, c.requires))
-    (omega (arith, longer n c.if-n-eq0.false, c.requires, c.put-places-next.ensures.ends)) c.put-places-next.ensures)
+    (wrote_push c.args.text.now c.args.start (places (n / 10)) c.put_places-next.new.text c.put_places-next.result (48 + n % 10) (omega (arith, c.requires))
+    (omega (arith, longer n c.if-n-eq0.false, c.requires, c.put_places-next.ensures.ends)) c.put_places-next.ensures)

@@ -1,4 +1,4 @@
 use Rattle.statement.proofs.put.+put_places.Given as goal
 
-abbrev pub decreases-put-places : goal.decreases-put-places
-decreases-put-places l = l.n
+abbrev pub decreases-put_places : goal.decreases-put_places
+decreases-put_places l = l.n

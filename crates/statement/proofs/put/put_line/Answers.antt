@@ -23,15 +23,15 @@ bounds-text-next c =
     let ns = c.args.numbers.now in
     omega (arith, c.requires, line_length c.args.letter ns, c.loop-n.invariant.ends, fields_front ns c.loop-n.n-index, c.loop-n.auto.text, length-set c.args.text.now c.args.start c.args.letter)
 
-pub overflow-add-next-in-loop-n : goal.overflow-add-next-in-loop-n
-overflow-add-next-in-loop-n c =
+pub overflow_add-next-in-loop-n : goal.overflow_add-next-in-loop-n
+overflow_add-next-in-loop-n c =
     let ns = c.args.numbers.now in
     let room : c.loop-n.next < length c.args.text.now =
     omega (arith, c.requires, line_length c.args.letter ns, c.loop-n.invariant.ends, fields_front ns c.loop-n.n-index) in
     search rules
 
-pub put-number-next-requires : goal.put-number-next-requires
-put-number-next-requires c =
+pub put_number-next-requires : goal.put_number-next-requires
+put_number-next-requires c =
     let ns = c.args.numbers.now in
     let i = c.loop-n.n-index in
     let fits : SFits w64 (get_or ns i (pos 0)) = search rules in
@@ -45,14 +45,14 @@ loop-n-preserved c =
     let old = set c.args.text.now c.args.start c.args.letter in
     let z = get_or ns i (pos 0) in
     let fits : SFits w64 z = search rules in
-    let number : Wrote (set c.loop-n.text c.loop-n.next 32) (c.loop-n.next + 1) (numeral z) c.put-number-next.new.text c.put-number-next.result =
-    subst (λ (y : ℤ). Wrote (set c.loop-n.text c.loop-n.next 32) (c.loop-n.next + 1) (numeral y) c.put-number-next.new.text c.put-number-next.result) (to_z-of_z w64 z fits) c.put-number-next.ensures in
+    let number : Wrote (set c.loop-n.text c.loop-n.next 32) (c.loop-n.next + 1) (numeral z) c.put_number-next.new.text c.put_number-next.result =
+    subst (λ (y : ℤ). Wrote (set c.loop-n.text c.loop-n.next 32) (c.loop-n.next + 1) (numeral y) c.put_number-next.new.text c.put_number-next.result) (to_z-of_z w64 z fits) c.put_number-next.ensures in
     let sizes = length-set c.args.text.now c.args.start c.args.letter in
     let start : c.args.start + 1 ≤ length old = omega (arith, c.requires, line_length c.args.letter ns, sizes) in
     let next : c.loop-n.next < length c.loop-n.text =
     omega (arith, c.requires, line_length c.args.letter ns, c.loop-n.invariant.ends, fields_front ns i, c.loop-n.auto.text, sizes) in
     wrote_same _ _ _ _ _ _ (append_assoc (fields (take i ns)) (32 ∷ []) (numeral z) ∙ sym (fields_more ns i c.loop-n-test.true))
-    (wrote_then old (c.args.start + 1) (fields (take i ns) ++ (32 ∷ [])) (set c.loop-n.text c.loop-n.next 32) (c.loop-n.next + 1) (numeral z) c.put-number-next.new.text c.put-number-next.result start
+    (wrote_then old (c.args.start + 1) (fields (take i ns) ++ (32 ∷ [])) (set c.loop-n.text c.loop-n.next 32) (c.loop-n.next + 1) (numeral z) c.put_number-next.new.text c.put_number-next.result start
     (wrote_push old (c.args.start + 1) (fields (take i ns)) c.loop-n.text c.loop-n.next 32 start next c.loop-n.invariant) number)
 
 pub bounds-text-next-2 : goal.bounds-text-next-2
@@ -60,8 +60,8 @@ bounds-text-next-2 c =
     let ns = c.args.numbers.now in
     omega (arith, c.requires, line_length c.args.letter ns, c.loop-n.invariant.ends, fields_front ns c.loop-n.n-index, c.loop-n.auto.text, length-set c.args.text.now c.args.start c.args.letter)
 
-pub overflow-add-result : goal.overflow-add-result
-overflow-add-result c =
+pub overflow_add-result : goal.overflow_add-result
+overflow_add-result c =
     let ns = c.args.numbers.now in
     let room : c.loop-n.next < length c.args.text.now =
     omega (arith, c.requires, line_length c.args.letter ns, c.loop-n.invariant.ends, fields_front ns c.loop-n.n-index) in

@@ -19,24 +19,24 @@ bounds-text-start c =
     let e = below c.args.n _ read (grind (arith, ints, c.if-n-lt0.true)) in
     omega (arith, c.requires, ap length e)
 
-pub put-unsigned-requires : goal.put-unsigned-requires
-put-unsigned-requires c =
+pub put_unsigned-requires : goal.put_unsigned-requires
+put_unsigned-requires c =
     let read = to_z-of_z w64 c.args.n c.ranges.n in
-    let e = below c.args.n _ read (grind (arith, ints, c.if-n-lt0.true)) ∙ ap (λ (m : ℕ). 45 ∷ unsigned m) (sym c.unsigned-abs.ensures.value) in
+    let e = below c.args.n _ read (grind (arith, ints, c.if-n-lt0.true)) ∙ ap (λ (m : ℕ). 45 ∷ unsigned m) (sym c.unsigned_abs.ensures.value) in
     simp length-set (omega (arith, c.requires, ap length e))
 
 pub returns-then-n-lt0 : goal.returns-then-n-lt0
 returns-then-n-lt0 c =
     let read = to_z-of_z w64 c.args.n c.ranges.n in
-    let e = below c.args.n _ read (grind (arith, ints, c.if-n-lt0.true)) ∙ ap (λ (m : ℕ). 45 ∷ unsigned m) (sym c.unsigned-abs.ensures.value) in
+    let e = below c.args.n _ read (grind (arith, ints, c.if-n-lt0.true)) ∙ ap (λ (m : ℕ). 45 ∷ unsigned m) (sym c.unsigned_abs.ensures.value) in
     let text = c.args.text.now in
     let start = c.args.start in
     wrote_same _ _ _ _ _ _ (sym e)
-    (wrote_then text start (45 ∷ []) (set text start 45) (start + 1) (unsigned c.unsigned-abs.result) c.put-unsigned.new.text c.put-unsigned.result (omega (arith, c.requires))
-    (wrote_byte text start 45 (omega (arith, c.requires, ap length e))) c.put-unsigned.ensures)
+    (wrote_then text start (45 ∷ []) (set text start 45) (start + 1) (unsigned c.unsigned_abs.result) c.put_unsigned.new.text c.put_unsigned.result (omega (arith, c.requires))
+    (wrote_byte text start 45 (omega (arith, c.requires, ap length e))) c.put_unsigned.ensures)
 
-pub put-unsigned-requires-2 : goal.put-unsigned-requires-2
-put-unsigned-requires-2 c =
+pub put_unsigned-requires-2 : goal.put_unsigned-requires-2
+put_unsigned-requires-2 c =
     let read = to_z-of_z w64 c.args.n c.ranges.n in
     let e = above c.args.n _ read (grind (arith, ints, c.if-n-lt0.false)) in
     omega (arith, c.requires, ap length e)
@@ -45,4 +45,4 @@ pub returns : goal.returns
 returns c =
     let read = to_z-of_z w64 c.args.n c.ranges.n in
     let e = above c.args.n _ read (grind (arith, ints, c.if-n-lt0.false)) in
-    wrote_same _ _ _ _ _ _ (sym e) c.put-unsigned-2.ensures
+    wrote_same _ _ _ _ _ _ (sym e) c.put_unsigned-2.ensures

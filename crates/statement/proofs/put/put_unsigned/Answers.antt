@@ -11,8 +11,8 @@ returns-then-n-eq0 c =
     let zero = unsigned_zero c.args.n c.if-n-eq0.true in
     wrote_same _ _ (48 ∷ []) _ _ _ (sym zero) (wrote_byte c.args.text.now c.args.start 48 (omega (arith, c.requires, ap length zero)))
 
-pub put-places-requires : goal.put-places-requires
-put-places-requires c = omega (arith, c.requires, ap length (unsigned_above c.args.n (omega (arith, c.if-n-eq0.false))))
+pub put_places-requires : goal.put_places-requires
+put_places-requires c = omega (arith, c.requires, ap length (unsigned_above c.args.n (omega (arith, c.if-n-eq0.false))))
 
 pub returns : goal.returns
-returns c = wrote_same _ _ _ _ _ _ (sym (unsigned_above c.args.n (omega (arith, c.if-n-eq0.false)))) c.put-places.ensures
+returns c = wrote_same _ _ _ _ _ _ (sym (unsigned_above c.args.n (omega (arith, c.if-n-eq0.false)))) c.put_places.ensures

@@ -12,16 +12,16 @@ share_most : (qse : ℕ) (z : ℤ) → qse < 16 → SFits w64 z → length (line
 share_most qse z h fits =
     omega (arith, line_two 83 (pos qse) z, numeral_plain 2 qse (omega arith) (omega arith), numeral_most 19 z (omega arith) (omega (arith, ints, abs_is z, fits.sfits)))
 
-pub returns-then-not-has-qse : goal.returns-then-not-has-qse
+pub returns-then-not-has_qse : goal.returns-then-not-has_qse
 unfolding share_line
-returns-then-not-has-qse c =
+returns-then-not-has_qse c =
     record {
-      wrote = wrote_same _ _ [] _ _ _ (sym (cond-false _ _ [] (sym c.if-not-has-qse.ensures))) (wrote_none c.args.text.now c.args.start);
+      wrote = wrote_same _ _ [] _ _ _ (sym (cond-false _ _ [] (sym c.if-not-has_qse.ensures))) (wrote_none c.args.text.now c.args.start);
       most = omega arith;
     }
 
-pub put-line-requires : goal.put-line-requires
-put-line-requires c =
+pub put_line-requires : goal.put_line-requires
+put_line-requires c =
     let z = get_or c.args.shares.now c.args.qse (pos 0) in
     let qse : SFits w64 c.from.result = search rules in
     let fits : SFits w64 z = search rules in
@@ -36,6 +36,6 @@ returns c =
     let fits : SFits w64 z = search rules in
     let e = ap (line 83) (two_passed c.from.result z (pos c.args.qse) z qse fits c.from.ensures refl) in
     record {
-      wrote = wrote_same _ _ _ _ _ _ (e ∙ sym (cond-true _ _ [] (sym c.if-not-has-qse.ensures))) c.put-line.ensures;
-      most = omega (arith, c.put-line.ensures.ends, ap length e, share_most c.args.qse z c.requires.qse fits);
+      wrote = wrote_same _ _ _ _ _ _ (e ∙ sym (cond-true _ _ [] (sym c.if-not-has_qse.ensures))) c.put_line.ensures;
+      most = omega (arith, c.put_line.ensures.ends, ap length e, share_most c.args.qse z c.requires.qse fits);
     }

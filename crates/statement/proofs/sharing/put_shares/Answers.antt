@@ -14,9 +14,9 @@ loop-qse-preserved c =
     let g : ℕ → List ℕ = λ q. share_line (rows_of c.args.roll.now) c.args.shares.now q in
     let qse = c.loop-qse.qse in (
       wrote_same _ _ _ _ _ _ (sym (lines_more g qse))
-          (wrote_then c.args.text.now c.args.start (lines g qse) c.loop-qse.text c.loop-qse.next (g qse) c.put-share-next.new.text c.put-share-next.result (omega (arith, c.requires.room))
-          c.loop-qse.invariant.0 c.put-share-next.ensures.wrote),
-      omega (arith, c.loop-qse.invariant.1, c.put-share-next.ensures.most),
+          (wrote_then c.args.text.now c.args.start (lines g qse) c.loop-qse.text c.loop-qse.next (g qse) c.put_share-next.new.text c.put_share-next.result (omega (arith, c.requires.room))
+          c.loop-qse.invariant.0 c.put_share-next.ensures.wrote),
+      omega (arith, c.loop-qse.invariant.1, c.put_share-next.ensures.most),
     )
 
 pub returns : goal.returns

@@ -4,8 +4,8 @@ use Rattle.statement.proofs.Passing.{three_passed}
 use Rattle.statement.proofs.Pieces.{line_three, numeral_plain}
 use Rattle.statement.proofs.whole.put_refusal.Goals as goal
 
-pub put-line-requires : goal.put-line-requires
-put-line-requires c =
+pub put_line-requires : goal.put_line-requires
+put_line-requires c =
     let a = c.answer-answer.result in
     let number : Fits w8 a.number = search rules in
     let subject : Fits w8 a.subject = search rules in

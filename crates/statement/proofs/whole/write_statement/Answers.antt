@@ -26,10 +26,10 @@ misfit_answer q n answer early wrong =
     ap (λ (o : Option Refusal). ok_unless (or_else o (misfit 2048 n)) answer) (cond-false (ltb 99 q) (Some QuarterHour) None (le-ltb 99 q early))
     ∙ ap (λ (o : Option Refusal). ok_unless o answer) (cond-false (eqb n 2048) None (Some ListLength) (ne_eqb n 2048 wrong)))
 
-pub returns-then-quarter-hour-gt99 : goal.returns-then-quarter-hour-gt99
-returns-then-quarter-hour-gt99 g c =
+pub returns-then-quarter_hour-gt99 : goal.returns-then-quarter_hour-gt99
+returns-then-quarter_hour-gt99 g c =
     record {
-      answer = late_answer c.args.quarter-hour (length c.args.text.now) _ c.if-quarter-hour-gt99.true;
+      answer = late_answer c.args.quarter_hour (length c.args.text.now) _ c.if-quarter_hour-gt99.true;
       after = refl;
       fits = λ ok. absurd (false≢true ok);
       law = leaves_nothing_out _;
@@ -38,17 +38,17 @@ returns-then-quarter-hour-gt99 g c =
 pub returns-then-text-ne-ROOM : goal.returns-then-text-ne-ROOM
 returns-then-text-ne-ROOM g c =
     record {
-      answer = misfit_answer c.args.quarter-hour (length c.args.text.now) _ c.if-quarter-hour-gt99.false c.if-text-ne-ROOM.true;
+      answer = misfit_answer c.args.quarter_hour (length c.args.text.now) _ c.if-quarter_hour-gt99.false c.if-text-ne-ROOM.true;
       after = refl;
       fits = λ ok. absurd (false≢true ok);
       law = leaves_nothing_out _;
     }
 
 -- ---- the accepted ways
-pub put-balance-requires : goal.put-balance-requires
-put-balance-requires g c =
+pub put_balance-requires : goal.put_balance-requires
+put_balance-requires g c =
     let book = c.args.book.now in
-    let q = c.args.quarter-hour in
+    let q = c.args.quarter_hour in
     let x : Quarter = quarter_in c.args.roll.now (g.B.LoadBook.grossing book) (g.B.LoadBook.standing book) c.args.figures.now q in
     let got = c.in-Ok.ensures in
     let fine : refusal_of_quarter x ≡ None = none_second (late_at q) (refusal_of_quarter x) got.0 in
@@ -87,32 +87,32 @@ within old st new e long kept w =
 pub returns-in-Ok : goal.returns-in-Ok
 returns-in-Ok g c =
     let book = c.args.book.now in
-    let q = c.args.quarter-hour in
+    let q = c.args.quarter_hour in
     let old = c.args.text.now in
     let x : Quarter = quarter_in c.args.roll.now (g.B.LoadBook.grossing book) (g.B.LoadBook.standing book) c.args.figures.now q in
     let got = c.in-Ok.ensures in
     let fine : refusal_of_quarter x ≡ None = none_second (late_at q) (refusal_of_quarter x) got.0 in
-    let wrote : Wrote old 0 (statement_of x) c.put-balance.new.text c.put-balance.result =
-    wrote_same _ _ _ _ _ _ (text_same x c.in-Ok.balance fine got.1 got.2) c.put-balance.ensures in
+    let wrote : Wrote old 0 (statement_of x) c.put_balance.new.text c.put_balance.result =
+    wrote_same _ _ _ _ _ _ (text_same x c.in-Ok.balance fine got.1 got.2) c.put_balance.ensures in
     record {
-      answer = answered q old (statement_of x) c.put-balance.new.text c.put-balance.result (omega arith) c.if-text-ne-ROOM.false wrote;
-      after = from_start old (statement_of x) c.put-balance.new.text c.put-balance.result wrote;
-      fits = λ _. within old (statement_of x) c.put-balance.new.text c.put-balance.result c.if-text-ne-ROOM.false c.put-balance.auto.text wrote;
+      answer = answered q old (statement_of x) c.put_balance.new.text c.put_balance.result (omega arith) c.if-text-ne-ROOM.false wrote;
+      after = from_start old (statement_of x) c.put_balance.new.text c.put_balance.result wrote;
+      fits = λ _. within old (statement_of x) c.put_balance.new.text c.put_balance.result c.if-text-ne-ROOM.false c.put_balance.auto.text wrote;
       law = leaves_nothing_out x;
     }
 
 pub returns-in-Err : goal.returns-in-Err
 returns-in-Err g c =
     let book = c.args.book.now in
-    let q = c.args.quarter-hour in
+    let q = c.args.quarter_hour in
     let old = c.args.text.now in
     let x : Quarter = quarter_in c.args.roll.now (g.B.LoadBook.grossing book) (g.B.LoadBook.standing book) c.args.figures.now q in
     let refused : refusal_of_quarter x ≡ Some c.in-Err.refusal = early_refusal q (refusal_of_quarter x) c.in-Err.refusal (omega arith) c.in-Err.ensures in
-    let wrote : Wrote old 0 (statement_of x) c.put-refusal.new.text c.put-refusal.result =
-    wrote_same _ _ _ _ _ _ (sym (refused_text x c.in-Err.refusal refused)) c.put-refusal.ensures in
+    let wrote : Wrote old 0 (statement_of x) c.put_refusal.new.text c.put_refusal.result =
+    wrote_same _ _ _ _ _ _ (sym (refused_text x c.in-Err.refusal refused)) c.put_refusal.ensures in
     record {
-      answer = answered q old (statement_of x) c.put-refusal.new.text c.put-refusal.result (omega arith) c.if-text-ne-ROOM.false wrote;
-      after = from_start old (statement_of x) c.put-refusal.new.text c.put-refusal.result wrote;
-      fits = λ _. within old (statement_of x) c.put-refusal.new.text c.put-refusal.result c.if-text-ne-ROOM.false c.put-refusal.auto.text wrote;
+      answer = answered q old (statement_of x) c.put_refusal.new.text c.put_refusal.result (omega arith) c.if-text-ne-ROOM.false wrote;
+      after = from_start old (statement_of x) c.put_refusal.new.text c.put_refusal.result wrote;
+      fits = λ _. within old (statement_of x) c.put_refusal.new.text c.put_refusal.result c.if-text-ne-ROOM.false c.put_refusal.auto.text wrote;
       law = leaves_nothing_out x;
     }
