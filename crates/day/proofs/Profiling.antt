@@ -6,20 +6,21 @@ use Rattle.refusal.specs.declared.Refusal.TheVariants as refused
 use Rattle.book.specs.Cells.{Standing}
 use Rattle.book.specs.Grossing.{Grossing}
 use Rattle.profile.specs.declared.ProfiledReading.{ProfiledReading}
+use Rattle.roll.specs.Days.{quarters_of}
 use Rattle.posting.specs.Readings.{spread_into}
 use Rattle.posting.specs.Rows.{crowded, having, row_answer}
 use Rattle.posting.proofs.Laying.{day_length}
 use Rattle.balance.specs.Questions.{ok_unless}
 use Rattle.balance.specs.Totals.{or_else}
 use Rattle.day.specs.Entries.{no_segment, spread_in, unspread, why_not, segment_off_roll, no_places, profiled_refusal, profiled_answer}
-use Rattle.day.specs.Slate.{Setting, Slate, day_in, readings_of}
+use Rattle.day.specs.Slate.{Setting, Slate, readings_of}
 
 abbrev pub slate_with : Standing → (ℕ → ℕ → Option ℤ) → Slate
 slate_with readings figures = record { reading = readings; figure = figures }
 
 abbrev pub setting_with : Setting → ℕ → Grossing → Setting
 setting_with setting places grossing =
-    record { rows = setting.rows; sites = setting.sites; length = setting.length; places = places; grossing = grossing }
+    record { rows = setting.rows; sites = setting.sites; day = setting.day; length = setting.length; places = places; grossing = grossing }
 
 -- what was not laid out, and why; what was, and that nothing spoke against it
 not_laid : (a : Result (Unit {0}) Refusal) (readings : List ℕ) (e : Refusal) → Err e ≡ spread_into a readings → why_not a ≡ Some e
@@ -44,12 +45,12 @@ pub slate_if : (b : Bool) (new : Standing) (slate : Slate) → slate_with (cond 
 slate_if true new slate = refl
 slate_if false new slate = refl
 
-module _ (setting : Setting) (slate : Slate) (s : ℕ) (reading : ProfiledReading) (weights : List ℕ) (low : s ≤ 63) where
+module _ (setting : Setting) (whole : setting.day ≡ quarters_of setting.length) (slate : Slate) (s : ℕ) (reading : ProfiledReading) (weights : List ℕ) (low : s ≤ 63) where
   abbrev spread : Result (Unit {0}) Refusal
   spread = spread_in setting reading weights
 
   abbrev had : ℕ
-  had = having slate.reading s (day_in setting)
+  had = having slate.reading s setting.day
 
   past_number : profiled_refusal setting slate s reading weights ≡ or_else (unspread setting reading weights) (or_else (segment_off_roll setting s) (no_places setting slate s))
   past_number =
@@ -70,15 +71,15 @@ module _ (setting : Setting) (slate : Slate) (s : ℕ) (reading : ProfiledReadin
     pub refused_off_roll : (e : Refusal) → segment_off_roll setting s ≡ Some e → Err e ≡ profiled_answer setting slate s reading weights
     refused_off_roll e h = sym (past_laying ∙ ap (λ (o : Option Refusal). ok_unless (or_else o (no_places setting slate s)) had) h)
 
-    long : length got ≡ day_in setting
+    long : length got ≡ setting.day
     long =
         let both = laid spread (readings_of reading weights) got ok in
-        ap length both.1 ∙ day_length reading.energy reading.profile_total reading.profile_before setting.length weights (day_in setting) tt both.0
+        ap length both.1 ∙ day_length reading.energy reading.profile_total reading.profile_before setting.length weights setting.day tt both.0 ∙ sym whole
 
     row_is : row_answer slate.reading setting.places s got ≡ ok_unless (no_places setting slate s) had
     row_is =
         ap (λ (n : ℕ). cond (crowded slate.reading setting.places s n) (Err refused.NoPlace) (Ok (having slate.reading s n))) long
-        ∙ either (crowded slate.reading setting.places s (day_in setting))
+        ∙ either (crowded slate.reading setting.places s setting.day)
       where
         either : (b : Bool) → cond b (Err refused.NoPlace) (Ok had) ≡ ok_unless (cond b (Some refused.NoPlace) None) had
         either true = refl

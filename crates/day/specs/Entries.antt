@@ -9,7 +9,7 @@ use Rattle.balance.specs.Totals.{or_else}
 use Rattle.profile.specs.declared.ProfiledReading.{ProfiledReading}
 use Rattle.profile.specs.Answer.{spread_answer}
 use Rattle.posting.specs.Rows.{crowded, having}
-use Rattle.day.specs.Slate.{Setting, Slate, day_in}
+use Rattle.day.specs.Slate.{Setting, Slate}
 
 -- ---- the checks
 
@@ -48,7 +48,7 @@ no_place setting slate s q = cond (full slate.reading setting.places s q) (Some 
 -- more quarter hours of the day without a reading than places are left
 abbrev pub no_places : Setting → Slate → ℕ → Option Refusal
 no_places setting slate s =
-    cond (crowded slate.reading setting.places s (day_in setting)) (Some refused.NoPlace) None
+    cond (crowded slate.reading setting.places s setting.day) (Some refused.NoPlace) None
 
 -- why something was not done
 abbrev pub why_not : {X : Type 0} → Result X Refusal → Option Refusal
@@ -58,7 +58,7 @@ why_not (Err e) = Some e
 -- whether a reading for a span of days can be laid over this one
 abbrev pub spread_in : Setting → ProfiledReading → List ℕ → Result (Unit {0}) Refusal
 spread_in setting reading weights =
-    spread_answer reading.energy reading.profile_total reading.profile_before setting.length weights (day_in setting)
+    spread_answer reading.energy reading.profile_total reading.profile_before setting.length weights setting.day
 
 -- weights that are not as long as the day, a number out of its limits, or a day that does not fit its span
 abbrev pub unspread : Setting → ProfiledReading → List ℕ → Option Refusal
@@ -73,7 +73,7 @@ bare content = cond (is_some content) None (Some refused.NothingStands)
 abbrev pub post_refusal : Setting → Slate → ℕ → ℕ → ℕ → Option Refusal
 post_refusal setting slate s q v =
     or_else (no_segment s) (
-    or_else (late (day_in setting) q) (
+    or_else (late setting.day q) (
     or_else (above_limit v) (
     or_else (segment_off_roll setting s) (
     no_place setting slate s q))))
@@ -88,20 +88,20 @@ profiled_refusal setting slate s reading weights =
 abbrev pub withdraw_refusal : Setting → Slate → ℕ → ℕ → Option Refusal
 withdraw_refusal setting slate s q =
     or_else (no_segment s) (
-    or_else (late (day_in setting) q) (
+    or_else (late setting.day q) (
     or_else (segment_off_roll setting s) (
     bare (slate.reading s q))))
 
 abbrev pub figure_refusal : Setting → Slate → ℕ → ℕ → ℤ → Option Refusal
 figure_refusal setting slate i q wh =
-    or_else (late (day_in setting) q) (
+    or_else (late setting.day q) (
     or_else (no_site i) (
     or_else (too_far wh) (
     site_off_roll setting i)))
 
 abbrev pub strike_refusal : Setting → Slate → ℕ → ℕ → Option Refusal
 strike_refusal setting slate i q =
-    or_else (late (day_in setting) q) (
+    or_else (late setting.day q) (
     or_else (no_site i) (
     or_else (site_off_roll setting i) (
     bare (slate.figure i q))))
@@ -115,7 +115,7 @@ post_answer setting slate s q v = ok_unless (post_refusal setting slate s q v) (
 -- how many quarter hours of the day had a reading before
 abbrev pub profiled_answer : Setting → Slate → ℕ → ProfiledReading → List ℕ → Result ℕ Refusal
 profiled_answer setting slate s reading weights =
-    ok_unless (profiled_refusal setting slate s reading weights) (having slate.reading s (day_in setting))
+    ok_unless (profiled_refusal setting slate s reading weights) (having slate.reading s setting.day)
 
 -- the reading that stood
 abbrev pub withdraw_answer : Setting → Slate → ℕ → ℕ → Result ℕ Refusal

@@ -9,7 +9,7 @@ use Rattle.balance.specs.Questions.{ok_unless, misfit, nowhere}
 use Rattle.balance.specs.Totals.{or_else}
 use Rattle.statement.specs.Statement.{statement_of}
 use Rattle.day.specs.Entries.{late}
-use Rattle.day.specs.Slate.{Setting, Slate, day_in}
+use Rattle.day.specs.Slate.{Setting, Slate}
 
 -- the roll with what stands on the slate for a quarter hour: each reading grossed, and the figures
 abbrev pub quarter_at : Setting → Slate → ℕ → Quarter
@@ -28,18 +28,18 @@ sheet_at setting slate q = sheet_of (quarter_at setting slate q)
 -- by the length of the list that is handed over
 abbrev pub loads_refusal : Setting → Slate → ℕ → ℕ → Option Refusal
 loads_refusal setting slate q len =
-    or_else (late (day_in setting) q) (or_else (misfit 64 len) (refusal_of_quarter (quarter_at setting slate q)))
+    or_else (late setting.day q) (or_else (misfit 64 len) (refusal_of_quarter (quarter_at setting slate q)))
 
 abbrev pub rtaml_refusal : Setting → Slate → ℕ → ℕ → ℕ → Option Refusal
 rtaml_refusal setting slate q qse point =
-    or_else (late (day_in setting) q) (or_else (nowhere qse point) (refusal_of_quarter (quarter_at setting slate q)))
+    or_else (late setting.day q) (or_else (nowhere qse point) (refusal_of_quarter (quarter_at setting slate q)))
 
 abbrev pub ufe_refusal : Setting → Slate → ℕ → Option Refusal
-ufe_refusal setting slate q = or_else (late (day_in setting) q) (refusal_of_quarter (quarter_at setting slate q))
+ufe_refusal setting slate q = or_else (late setting.day q) (refusal_of_quarter (quarter_at setting slate q))
 
 abbrev pub shares_refusal : Setting → Slate → ℕ → ℕ → Option Refusal
 shares_refusal setting slate q len =
-    or_else (late (day_in setting) q) (or_else (misfit 16 len) (refusal_of_shares (quarter_at setting slate q)))
+    or_else (late setting.day q) (or_else (misfit 16 len) (refusal_of_shares (quarter_at setting slate q)))
 
 -- ---- the answers
 
@@ -76,4 +76,4 @@ statement_at setting slate q = statement_of (quarter_at setting slate q)
 
 abbrev pub statement_answer : Setting → Slate → ℕ → ℕ → Result ℕ Refusal
 statement_answer setting slate q len =
-    ok_unless (or_else (late (day_in setting) q) (misfit 2048 len)) (length (statement_at setting slate q))
+    ok_unless (or_else (late setting.day q) (misfit 2048 len)) (length (statement_at setting slate q))

@@ -2,7 +2,6 @@
 use Rattle.std.specs.Prelude.{ℕ, Bool, List, ℤ, Some, None, Option}
 use Rattle.roll.specs.declared.draft.DayLength.{DayLength}
 use Rattle.roll.specs.declared.row.Row.{Row}
-use Rattle.roll.specs.Days.{quarters_of}
 use Rattle.book.specs.Cells.{Standing, nothing, put}
 use Rattle.book.specs.Grossing.{Grossing}
 use Rattle.book.specs.Tables.{blank, put_at}
@@ -14,15 +13,12 @@ pub record Setting : Type 0 where
   -- the roll: the row of each segment 0 to 63, or none, and whether each site 0 to 15 is listed
   pub rows : List (Option Row)
   pub sites : List Bool
-  -- how long the day is
+  -- how many quarter hours the day has, and which of the three lengths that is
+  pub day : ℕ
   pub length : DayLength
   -- how many readings can stand together, and what a reading, or none, grosses to
   pub places : ℕ
   pub grossing : Grossing
-
--- how many quarter hours the day has
-abbrev pub day_in : Setting → ℕ
-day_in setting = quarters_of setting.length
 
 pub record Slate : Type 0 where
   -- the reading of each segment and quarter hour, in Wh, or none

@@ -1,4 +1,4 @@
-// What a day answers of one of its quarter hours, in every state.
+// What a day answers of one of its quarter hours.
 ghost use Rattle.std.specs.Prelude.{◌≡◌, true, ◌++◌, length as length_of, drop, pos, is_ok, if◌then◌else◌};
 ghost use Rattle.split.specs.Parts.{sum_of};
 ghost use Rattle.balance.specs.Laws.{Balanced};
@@ -6,13 +6,13 @@ ghost use Rattle.statement.specs.Law.{LeavesNothingOut};
 ghost use Rattle.day.specs.Holding.{setting_of, slate_of};
 ghost use Rattle.day.specs.Questions.{sheet_at, loads_at, loads_answer, rtaml_answer, ufe_answer, shares_at, shares_answer, quarter_at, statement_at, statement_answer};
 
-use crate::day::Day;
+use crate::day_core::DayCore;
 use balance::Ufe;
 use book::LoadBook;
 use refusal::Refusal;
 use statement::write_statement;
 
-impl<B: LoadBook + Drop, S: Drop> Day<B, S> {
+impl<B: LoadBook + Drop> DayCore<B> {
     /// The adjusted load of each segment into a list of 64, 0 off the roll.
     pub fn adjusted_loads(&self, quarter_hour: u8, list: &mut [i64]) -> Result<(), Refusal>
         ensures answer { result ≡ loads_answer (setting_of B.LoadBook self.now) (slate_of B.LoadBook self.now) quarter_hour (length_of list.old) }

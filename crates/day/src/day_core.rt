@@ -12,20 +12,18 @@ use roll::{DayLength, Roll};
 
 pub mod entries;
 pub mod questions;
-pub mod states;
 
-/// A day in one of its states: its length and roll, which stay, and what was entered: readings in
-/// a load book, and the generation figures. Which calls there are goes by the state.
+/// A day's length and roll, which stay, and what was entered: readings in a load book, and the
+/// generation figures.
 #[derive(Drop)]
-pub struct Day<B: LoadBook + Drop, S: Drop> {
+pub struct DayCore<B: LoadBook + Drop> {
     length: DayLength,
     roll: Roll,
     book: B,
     figures: Figures,
-    state: S,
 }
 
-impl<B: LoadBook + Drop, S: Drop> Day<B, S> {
+impl<B: LoadBook + Drop> DayCore<B> {
     /// Whether a quarter hour is one of the day's. A book has 100 of them, and the day may have fewer.
     fn has(&self, quarter_hour: u8) -> bool
         ensures { result ≡ nat_lt quarter_hour (quarters_of self.now.length) }

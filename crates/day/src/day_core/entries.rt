@@ -1,18 +1,36 @@
-// What is entered into an open day and taken back.
+// How a day is opened, and what is entered into it and taken back.
 ghost use Rattle.std.specs.Prelude.{◌≡◌, is_ok, if◌then◌else◌};
+ghost use Rattle.roll.specs.Drafts.{day_of, roll_of};
 ghost use Rattle.posting.specs.Readings.{readings_in, spread_into};
 ghost use Rattle.day.specs.Entries.{post_answer, profiled_answer, withdraw_answer, figure_answer, strike_answer, spread_in};
-ghost use Rattle.day.specs.Holding.{setting_of, slate_of};
-ghost use Rattle.day.specs.Slate.{posted, readings_of, profiled, withdrawn, figured, struck};
+ghost use Rattle.day.specs.Holding.{setting_by, setting_of, slate_of};
+ghost use Rattle.day.specs.Slate.{blank_slate, posted, readings_of, profiled, withdrawn, figured, struck};
 
-use crate::day::Day;
-use crate::day::states::Open;
+use crate::day_core::DayCore;
+use balance::Figures;
 use book::LoadBook;
 use posting::DayReadings;
 use profile::ProfiledReading;
 use refusal::Refusal;
+use roll::Draft;
 
-impl<B: LoadBook + Drop, G: Drop> Day<B, Open<G>> {
+impl<B: LoadBook + Drop> DayCore<B> {
+    /// The day of a draft, over a book that is cleared first.
+    pub fn open(draft: Draft, book: B) -> DayCore<B>
+        ensures setting { setting_of B.LoadBook result ≡ setting_by (day_of draft) (roll_of draft) (B.LoadBook.places book) (B.LoadBook.grossing book) }
+        ensures slate { slate_of B.LoadBook result ≡ blank_slate }
+    {
+        let (length, roll) = draft.into_parts();
+        let mut book = book;
+        book.clear();
+        DayCore {
+            length,
+            roll,
+            book,
+            figures: Figures::none(),
+        }
+    }
+
     /// Puts a reading into its cell, and answers the one that stood there before.
     pub fn post(
         &mut self,
