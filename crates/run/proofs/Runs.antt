@@ -11,7 +11,7 @@ use Rattle.balance.specs.Questions.{ok_unless}
 use Rattle.balance.specs.Totals.{or_else}
 use Rattle.day.specs.Entries.{late}
 use Rattle.day.specs.Questions.{quarter_at, sheet_at, loads_refusal, loads_at, shares_refusal, shares_at}
-use Rattle.day.specs.Slate.{Setting, Slate, day_in}
+use Rattle.day.specs.Slate.{Setting, Slate}
 use Rattle.day.proofs.Balances.{none_later, quarter_balanced, loads_come_to, shares_come_to}
 use Rattle.run.specs.declared.any_day.AnyDay.{AnyDay}
 use Rattle.run.specs.declared.call.Answer.{Answer}
@@ -51,14 +51,14 @@ module _ (setting : Setting) (in_table : (s : ℕ) → ranged (get_or setting.ro
     loads i q c a list h asked got =
         let both = loads_given (loads_refusal setting (slate i) q 64) (loads_at setting (slate i) q) list
         (sym got ∙ agrees i c a h ∙ ap (answer_to setting (course_of setting (take i calls))) asked) in
-        let none : refusal_of_quarter (quarter i q) ≡ None = none_later (late (day_in setting) q) (refusal_of_quarter (quarter i q)) both.0 in
+        let none : refusal_of_quarter (quarter i q) ≡ None = none_later (late setting.day q) (refusal_of_quarter (quarter i q)) both.0 in
         ap sum_of both.1 ∙ loads_come_to (quarter i q) in_table none
 
     shares : (i q : ℕ) (c : Call) (a : Answer) (list : List ℤ) → i < length calls → get_or calls i c ≡ call.Question (ask.Shares q) → get_or answers i a ≡ answer.Shares (Ok list) → sum_of list ≡ pos 1000000000
     shares i q c a list h asked got =
         let both = shares_given (shares_refusal setting (slate i) q 16) (shares_at setting (slate i) q) list
         (sym got ∙ agrees i c a h ∙ ap (answer_to setting (course_of setting (take i calls))) asked) in
-        let none : refusal_of_shares (quarter i q) ≡ None = none_later (late (day_in setting) q) (refusal_of_shares (quarter i q)) both.0 in
+        let none : refusal_of_shares (quarter i q) ≡ None = none_later (late setting.day q) (refusal_of_shares (quarter i q)) both.0 in
         ap sum_of both.1 ∙ shares_come_to (quarter i q) in_table none
 
     answered : Answered setting calls answers

@@ -1,6 +1,6 @@
 -- The setting and the course that a day has, whichever state it is in. Assumes nothing.
 use Rattle.book.specs.declared.LoadBook.{Ghosts}
-use Rattle.day.specs.Holding.{setting_of, slate_of}
+use Rattle.day.specs.Holding.{day_setting, day_slate}
 use Rattle.day.specs.Slate.{Setting, Slate}
 use Rattle.run.specs.declared.any_day.AnyDay.{AnyDay}
 use Rattle.run.specs.declared.any_day.AnyDay.TheVariants as any
@@ -9,16 +9,16 @@ use Rattle.run.specs.declared.call.DayState.TheVariants.{OpenInitial, SealedInit
 use Rattle.run.specs.Courses.{Course}
 
 abbrev pub setting_of_any : {B : Type 0} → Ghosts B → AnyDay B → Setting
-setting_of_any meaning (any.OpenInitial day) = setting_of meaning day
-setting_of_any meaning (any.SealedInitial day) = setting_of meaning day
-setting_of_any meaning (any.OpenFinal day) = setting_of meaning day
-setting_of_any meaning (any.SealedFinal day) = setting_of meaning day
+setting_of_any meaning (any.OpenInitial day) = day_setting meaning day
+setting_of_any meaning (any.SealedInitial day) = day_setting meaning day
+setting_of_any meaning (any.OpenFinal day) = day_setting meaning day
+setting_of_any meaning (any.SealedFinal day) = day_setting meaning day
 
 abbrev pub slate_of_any : {B : Type 0} → Ghosts B → AnyDay B → Slate
-slate_of_any meaning (any.OpenInitial day) = slate_of meaning day
-slate_of_any meaning (any.SealedInitial day) = slate_of meaning day
-slate_of_any meaning (any.OpenFinal day) = slate_of meaning day
-slate_of_any meaning (any.SealedFinal day) = slate_of meaning day
+slate_of_any meaning (any.OpenInitial day) = day_slate meaning day
+slate_of_any meaning (any.SealedInitial day) = day_slate meaning day
+slate_of_any meaning (any.OpenFinal day) = day_slate meaning day
+slate_of_any meaning (any.SealedFinal day) = day_slate meaning day
 
 abbrev pub state_of : {B : Type 0} → AnyDay B → DayState
 state_of (any.OpenInitial day) = OpenInitial

@@ -1,7 +1,7 @@
 // One entry or one question, done by the day's own call for it.
 ghost use Rattle.std.specs.Prelude.{◌≡◌};
 ghost use Rattle.balance.specs.Questions.{ok_unless};
-ghost use Rattle.day.specs.Holding.{setting_of, slate_of};
+ghost use Rattle.day.specs.Holding.{day_setting, day_slate};
 ghost use Rattle.day.specs.Questions.{loads_refusal, loads_at, shares_refusal, shares_at};
 ghost use Rattle.run.specs.Calls.{entry_answer, entered, question_answer};
 
@@ -11,9 +11,9 @@ use day::{Day, Open};
 use refusal::Refusal;
 
 pub(crate) fn enter<B: LoadBook + Drop, G: Drop>(day: &mut Day<B, Open<G>>, entry: &Entry) -> Answer
-    ensures answer { result ≡ entry_answer (setting_of B.LoadBook day.old) (slate_of B.LoadBook day.old) entry.now }
-    ensures slate { slate_of B.LoadBook day.new ≡ entered (setting_of B.LoadBook day.old) (slate_of B.LoadBook day.old) entry.now }
-    ensures setting { setting_of B.LoadBook day.new ≡ setting_of B.LoadBook day.old }
+    ensures answer { result ≡ entry_answer (day_setting B.LoadBook day.old) (day_slate B.LoadBook day.old) entry.now }
+    ensures slate { day_slate B.LoadBook day.new ≡ entered (day_setting B.LoadBook day.old) (day_slate B.LoadBook day.old) entry.now }
+    ensures setting { day_setting B.LoadBook day.new ≡ day_setting B.LoadBook day.old }
 {
     match *entry {
         Entry::Post {
@@ -43,7 +43,7 @@ fn loads<B: LoadBook + Drop, S: Drop>(
     day: &Day<B, S>,
     quarter_hour: u8,
 ) -> Result<[i64; 64], Refusal>
-    ensures { result ≡ ok_unless (loads_refusal (setting_of B.LoadBook day.now) (slate_of B.LoadBook day.now) quarter_hour 64) (loads_at (setting_of B.LoadBook day.now) (slate_of B.LoadBook day.now) quarter_hour) }
+    ensures { result ≡ ok_unless (loads_refusal (day_setting B.LoadBook day.now) (day_slate B.LoadBook day.now) quarter_hour 64) (loads_at (day_setting B.LoadBook day.now) (day_slate B.LoadBook day.now) quarter_hour) }
 {
     let mut list = [0i64; 64];
     match day.adjusted_loads(quarter_hour, &mut list) {
@@ -56,7 +56,7 @@ fn shares<B: LoadBook + Drop, S: Drop>(
     day: &Day<B, S>,
     quarter_hour: u8,
 ) -> Result<[i64; 16], Refusal>
-    ensures { result ≡ ok_unless (shares_refusal (setting_of B.LoadBook day.now) (slate_of B.LoadBook day.now) quarter_hour 16) (shares_at (setting_of B.LoadBook day.now) (slate_of B.LoadBook day.now) quarter_hour) }
+    ensures { result ≡ ok_unless (shares_refusal (day_setting B.LoadBook day.now) (day_slate B.LoadBook day.now) quarter_hour 16) (shares_at (day_setting B.LoadBook day.now) (day_slate B.LoadBook day.now) quarter_hour) }
 {
     let mut list = [0i64; 16];
     match day.shares(quarter_hour, &mut list) {
@@ -66,7 +66,7 @@ fn shares<B: LoadBook + Drop, S: Drop>(
 }
 
 pub(crate) fn ask<B: LoadBook + Drop, S: Drop>(day: &Day<B, S>, question: &Question) -> Answer
-    ensures { result ≡ question_answer (setting_of B.LoadBook day.now) (slate_of B.LoadBook day.now) question.now }
+    ensures { result ≡ question_answer (day_setting B.LoadBook day.now) (day_slate B.LoadBook day.now) question.now }
 {
     match *question {
         Question::AdjustedLoads { quarter_hour } => {

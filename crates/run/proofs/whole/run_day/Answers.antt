@@ -1,6 +1,6 @@
 use Rattle.std.proofs.Common.{◌≡◌, ℕ, ◌+◌, ◌<◌, Bool, ◌&&◌, List, length, set, sym, ap, ◌∙◌, subst, arith}
 use Rattle.roll.specs.Drafts.{day_of, roll_of}
-use Rattle.day.specs.Holding.{setting_by, setting_of}
+use Rattle.day.specs.Holding.{setting_by, day_setting}
 use Rattle.day.specs.Slate.{Setting, Slate}
 use Rattle.run.specs.declared.any_day.AnyDay.TheVariants.{OpenInitial}
 use Rattle.run.specs.declared.call.Answer.{Answer}
@@ -24,15 +24,15 @@ loop-i-preserved g c =
     let answers = c.loop-i.answers in
     let i = c.loop-i.i in
     let first = OpenInitial c.open.result in
-    let setting : Setting = setting_of g.B.LoadBook c.open.result in
+    let setting : Setting = day_setting g.B.LoadBook c.open.result in
     let start : Course = course_of_any g.B.LoadBook first in
     let place : i < length answers = omega (arith, c.loop-i-test.true, c.loop-i.auto.answers, c.if-answers-calls.false) in
     let more : SoFar g.B.LoadBook setting start calls (set answers i c.step-next.result.1) c.step-next.result.0 (c.loop-i.lawful && taken c.step-next.result.1) (i + 1) =
     so_far_more g.B.LoadBook calls setting start answers c.loop-i.day c.loop-i.lawful i (Entry (Post 0 0 0)) c.loop-i.invariant c.loop-i-test.true place
     c.step-next.result.0 c.step-next.result.1 c.step-next.ensures.answer c.step-next.ensures.course c.step-next.ensures.setting in
-    let told : SoFar g.B.LoadBook setting start calls (set answers i c.step-next.result.1) c.step-next.result.0 c.still-lawful-lawful.result (i + 1) =
-    subst (λ (b : Bool). SoFar g.B.LoadBook setting start calls (set answers i c.step-next.result.1) c.step-next.result.0 b (i + 1)) (sym c.still-lawful-lawful.ensures) more in
-    subst (λ (x : List Answer). SoFar g.B.LoadBook setting start calls x c.step-next.result.0 c.still-lawful-lawful.result (i + 1)) (sym c.keep.ensures) told
+    let told : SoFar g.B.LoadBook setting start calls (set answers i c.step-next.result.1) c.step-next.result.0 c.still_lawful-lawful.result (i + 1) =
+    subst (λ (b : Bool). SoFar g.B.LoadBook setting start calls (set answers i c.step-next.result.1) c.step-next.result.0 b (i + 1)) (sym c.still_lawful-lawful.ensures) more in
+    subst (λ (x : List Answer). SoFar g.B.LoadBook setting start calls x c.step-next.result.0 c.still_lawful-lawful.result (i + 1)) (sym c.keep.ensures) told
 
 pub returns : goal.returns
 returns g c =
