@@ -12,23 +12,23 @@ use Rattle.grid.proofs.Cells.{Readings, readings_put, none_not_some, blank_word,
 
 -- what a grid's ghost fields say
 abbrev pub Sound : List ℕ → List ℕ → List ℕ → Type 0
-Sound cells early late =
-    ((length early ≡ 64) × (length late ≡ 64))
-    × (((s : ℕ) → get_or late s 0 < 2 ^ 36) × (Readings (standing_in cells early late) × ((count (standing_in cells early late) ≤ places_in cells) × Unit {0})))
+Sound cells early late = record {
+  words : (length early ≡ 64) × (length late ≡ 64);
+  day_end : (s : ℕ) → get_or late s 0 < 2 ^ 36;
+  readings : Readings (standing_in cells early late);
+  housed : count (standing_in cells early late) ≤ places_in cells;
+}
 
 -- with no mark set
 pub sound_blank : (cells : List ℕ) → Sound cells (replicate 64 0) (replicate 64 0)
 sound_blank cells =
-    let blank = blank_standing cells 64 in (
-      (refl, refl),
-      (
-        (λ s. omega (arith, blank_word 64 s)),
-        (
-          subst Readings (sym blank) (λ s q n e. none_not_some n 1000000 e),
-          (omega (arith, ap count blank, count_nothing), tt),
-        ),
-      ),
-    )
+    let blank = blank_standing cells 64 in
+    record {
+      words = (refl, refl);
+      day_end = λ s. omega (arith, blank_word 64 s);
+      readings = subst Readings (sym blank) (λ s q n e. none_not_some n 1000000 e);
+      housed = omega (arith, ap count blank, count_nothing);
+    }
 
 late_after : (late : List ℕ) (s w : ℕ) → s < length late → ((t : ℕ) → get_or late t 0 < 2 ^ 36) → w < 2 ^ 36 → (t : ℕ) → get_or (set late s w) t 0 < 2 ^ 36
 late_after late s w inside before new t =
@@ -58,16 +58,13 @@ module _ (g : Grid) (s q : ℕ) (before after : Marks) (hs : s < 64) (hq : q < 1
 
   pub sound_after : (numbers : List ℕ) (content : Option ℕ) → (before.late < 2 ^ 36 → after.late < 2 ^ 36) → standing_in numbers (set g.early s after.early) (set g.late s after.late) ≡ put (standing_of g) s q content → ((n : ℕ) → content ≡ Some n → n ≤ 1000000) → count (put (standing_of g) s q content) ≤ places_in numbers → Sound numbers (set g.early s after.early) (set g.late s after.late)
   sound_after numbers content width stands readable housed =
-      let late : before.late < 2 ^ 36 = subst (λ m. m.late < 2 ^ 36) (sym at) (g.day_end s) in (
-        (length-set g.early _ _ ∙ g.words.0, length-set g.late _ _ ∙ g.words.1),
-        (
-          late_after g.late s after.late (omega (arith, g.words.1)) g.day_end (width late),
-          (
-            subst Readings (sym stands) (readings_put (standing_of g) s q content g.readings readable),
-            (subst (λ st. count st ≤ places_in numbers) (sym stands) housed, tt),
-          ),
-        ),
-      )
+      let late : before.late < 2 ^ 36 = subst (λ m. m.late < 2 ^ 36) (sym at) (g.day_end s) in
+      record {
+        words = (length-set g.early _ _ ∙ g.words.0, length-set g.late _ _ ∙ g.words.1);
+        day_end = late_after g.late s after.late (omega (arith, g.words.1)) g.day_end (width late);
+        readings = subst Readings (sym stands) (readings_put (standing_of g) s q content g.readings readable);
+        housed = subst (λ st. count st ≤ places_in numbers) (sym stands) housed;
+      }
 
 -- a list with all the places has room for whatever stands, and an emptied cell takes none
 pub filled_housed : (numbers : List ℕ) (st : Standing) → length numbers ≡ 6400 → count st ≤ places_in numbers

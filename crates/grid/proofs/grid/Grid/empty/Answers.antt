@@ -8,7 +8,7 @@ use Rattle.grid.specs.Marks.{mark}
 use Rattle.grid.proofs.Cells.{none_not_some, marked_inside, marked_from_some}
 use Rattle.grid.proofs.Changes.{emptied, emptied_housed, sound_after}
 use Rattle.grid.proofs.grid.Grid.empty.Goals as goal
-use Rattle.grid.proofs.grid.Grid.empty.Goals.{After-without-marks, at·ghost-self, at·returns}
+use Rattle.grid.proofs.grid.Grid.empty.Goals.{After-without-marks}
 
 pub without-marks-requires : goal.without-marks-requires
 without-marks-requires c =
@@ -26,12 +26,12 @@ after c =
 
 pub returns : goal.returns
 returns c = record {
-  after = after (at·returns c).After-without-marks;
+  after = after (goal.at.returns c).After-without-marks;
   places = refl;
 }
 
 pub invariant_of-self : goal.invariant_of-self
 invariant_of-self c =
     sound_after c.args.self.now c.args.segment c.args.quarter_hour c.marks.result c.without-marks.result (omega arith) (omega arith) c.marks.ensures
-    c.args.self.now.cells.now None c.without-marks.ensures.width (after (at·ghost-self c).After-without-marks)
+    c.args.self.now.cells.now None c.without-marks.ensures.width (after (goal.at.invariant_of-self c).After-without-marks)
     (λ n e. none_not_some n 1000000 e) (emptied_housed c.args.self.now c.args.segment c.args.quarter_hour (omega arith) (omega arith))

@@ -5,7 +5,7 @@ use Rattle.grid.specs.Grids.{standing_of}
 use Rattle.grid.specs.Held.{standing_in}
 use Rattle.grid.proofs.Changes.{filled, filled_housed, sound_after}
 use Rattle.grid.proofs.grid.Grid.fill.Goals as goal
-use Rattle.grid.proofs.grid.Grid.fill.Goals.{After-place, at·returns}
+use Rattle.grid.proofs.grid.Grid.fill.Goals.{After-place}
 
 after : (c : After-place) → standing_in (set c.args.self.now.cells.now c.place.result c.args.reading) (set c.args.self.now.early c.args.segment c.with-marks.result.early) (set c.args.self.now.late c.args.segment c.with-marks.result.late) ≡ put (standing_of c.args.self.now) c.args.segment c.args.quarter_hour (Some c.args.reading)
 after c =
@@ -16,7 +16,7 @@ small c n e = let same : c.args.reading ≡ n = cc in omega arith
 
 pub returns : goal.returns
 returns c = record {
-  after = after (at·returns c).After-place;
+  after = after (goal.at.returns c).After-place;
   places = ap (λ (n : ℕ). cond {A = ℕ} (eqb n 6400) 6400 0) (length-set c.args.self.now.cells.now _ _);
 }
 

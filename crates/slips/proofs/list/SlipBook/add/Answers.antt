@@ -6,7 +6,7 @@ use Rattle.slips.proofs.list.SlipBook.add.Goals as goal
 pub invariant_of-self : goal.invariant_of-self
 invariant_of-self c =
     let b = c.args.self.now in
-    (arranged_added b.slips.now b.used c.args.slip b.arranged c.requires.place c.requires.range c.requires.free, tt)
+    record { arranged = arranged_added b.slips.now b.used c.args.slip b.arranged c.requires.place c.requires.range c.requires.free }
 
 pub returns : goal.returns
 returns c =

@@ -6,7 +6,7 @@ use Rattle.slips.proofs.list.SlipBook.correct.Goals as goal
 pub invariant_of-self : goal.invariant_of-self
 invariant_of-self c =
     let b = c.args.self.now in
-    (arranged_corrected b.slips.now b.used c.args.i c.args.reading b.arranged c.requires.place c.requires.limit, tt)
+    record { arranged = arranged_corrected b.slips.now b.used c.args.i c.args.reading b.arranged c.requires.place c.requires.limit }
 
 pub returns : goal.returns
 returns c =

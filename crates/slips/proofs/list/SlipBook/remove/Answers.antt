@@ -6,7 +6,7 @@ use Rattle.slips.proofs.list.SlipBook.remove.Goals as goal
 pub invariant_of-self : goal.invariant_of-self
 invariant_of-self c =
     let b = c.args.self.now in
-    ((removed b.slips.now b.used _ b.arranged (omega arith)).1, tt)
+    record { arranged = (removed b.slips.now b.used _ b.arranged (omega arith)).1 }
 
 pub returns : goal.returns
 returns c =
