@@ -1,5 +1,5 @@
 -- A layer's answer from the answer below. Assumes nothing.
-use Rattle.std.proofs.Common.{◌≡◌, ℕ, ◌+◌, ◌*◌, ◌/◌, ◌^◌, ◌<◌, ◌≤◌, Bool, true, false, cond, ltb, Ok, Err, Result, unwrap_or, sym, refl, ap, ◌∙◌, subst, zero-le, arith}
+use Rattle.std.proofs.Common.{◌≡◌, ℕ, ◌+◌, ◌*◌, ◌/◌, ◌^◌, ◌<◌, ◌≤◌, Bool, true, false, cond, ltb, Err, Result, unwrap_or, ap, zero-le, arith}
 use Rattle.std.specs.Result.{result_ok}
 use Rattle.std.proofs.lemmas.Nat.{mul-le, div_below}
 use Rattle.refusal.specs.declared.Refusal.{Refusal}
@@ -7,7 +7,7 @@ use Rattle.refusal.specs.declared.Refusal.TheVariants.{SegmentNumber, QuarterHou
 use Rattle.book.specs.Answers.{load_answer, answer_of_gross}
 use Rattle.book.specs.Grossing.{Gross, load, fault, Fault, Bounded, refusal_of}
 use Rattle.losses.specs.declared.adjust.Loss.{Loss}
-use Rattle.losses.specs.Adjusting.{adjusted, higher, grossed_up}
+use Rattle.losses.specs.Adjusting.{adjusted, higher}
 
 -- the answer of a load book, with the two tests of the cell as they came out
 abbrev tested : Bool → Bool → Result ℕ Refusal → Result ℕ Refusal

@@ -1,4 +1,3 @@
-use Rattle.std.proofs.Common.{◌≡◌, sym, subst, arith}
 use Rattle.losses.specs.Adjusting.{grossed_up}
 use Rattle.losses.proofs.Adjusting.{losses_fit}
 use Rattle.losses.proofs.adjust.with_losses.Goals as goal
