@@ -34,7 +34,8 @@ small_tested false false s (fault f n) h = zero-le
 pub small : (s q : ℕ) (g : Gross) → Bounded g → unwrap_or (result_ok (load_answer s q g)) 0 ≤ 4000000
 small s q g h = small_tested (ltb 63 s) (ltb 99 q) s g h
 
-pub losses_fit : (f m : ℕ) → f ≤ 500000 → m ≤ 4000000 → (m * (1000000 + f) + 500000) / 1000000 < 2 ^ 32
-losses_fit f m hf hm =
-    let p : m * (1000000 + f) ≤ 4000000 * 1500000 = mul-le m (1000000 + f) 4000000 1500000 hm (omega arith) in
-    div_below (m * (1000000 + f) + 500000) 1000000 (2 ^ 32) (omega arith) (omega arith)
+-- what a load comes to by a factor, in millionths and then in Wh, fits
+pub losses_fit : (m k r : ℕ) → m ≤ 4000000 → k ≤ 2000000 → r ≤ 500000 → (m * k + r) / 1000000 < 2 ^ 32
+losses_fit m k r hm hk hr =
+    let p : m * k ≤ 4000000 * 2000000 = mul-le m k 4000000 2000000 hm hk in
+    div_below (m * k + r) 1000000 (2 ^ 32) (omega arith) (omega arith)
