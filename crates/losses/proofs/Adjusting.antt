@@ -1,5 +1,5 @@
 -- A layer's answer from the answer below. Assumes nothing.
-use Rattle.std.proofs.Common.{◌≡◌, ℕ, ◌+◌, ◌*◌, ◌/◌, ◌^◌, ◌<◌, ◌≤◌, Bool, true, false, cond, ltb, Ok, Err, Result, unwrap_or, sym, refl, ap, ◌∙◌, subst, zero-le, arith}
+use Rattle.std.proofs.Common.{◌≡◌, ℕ, ◌+◌, ◌*◌, ◌/◌, ◌^◌, ◌<◌, ◌≤◌, Bool, true, false, cond, ltb, Err, Result, unwrap_or, ap, zero-le, arith}
 use Rattle.std.specs.Result.{result_ok}
 use Rattle.std.proofs.lemmas.Nat.{mul-le, div_below}
 use Rattle.refusal.specs.declared.Refusal.{Refusal}
@@ -7,7 +7,7 @@ use Rattle.refusal.specs.declared.Refusal.TheVariants.{SegmentNumber, QuarterHou
 use Rattle.book.specs.Answers.{load_answer, answer_of_gross}
 use Rattle.book.specs.Grossing.{Gross, load, fault, Fault, Bounded, refusal_of}
 use Rattle.losses.specs.declared.adjust.Loss.{Loss}
-use Rattle.losses.specs.Adjusting.{adjusted, higher, grossed_up}
+use Rattle.losses.specs.Adjusting.{adjusted, higher}
 
 -- the answer of a load book, with the two tests of the cell as they came out
 abbrev tested : Bool → Bool → Result ℕ Refusal → Result ℕ Refusal
@@ -34,7 +34,8 @@ small_tested false false s (fault f n) h = zero-le
 pub small : (s q : ℕ) (g : Gross) → Bounded g → unwrap_or (result_ok (load_answer s q g)) 0 ≤ 4000000
 small s q g h = small_tested (ltb 63 s) (ltb 99 q) s g h
 
-pub losses_fit : (f m : ℕ) → f ≤ 500000 → m ≤ 4000000 → (m * (1000000 + f) + 500000) / 1000000 < 2 ^ 32
-losses_fit f m hf hm =
-    let p : m * (1000000 + f) ≤ 4000000 * 1500000 = mul-le m (1000000 + f) 4000000 1500000 hm (omega arith) in
-    div_below (m * (1000000 + f) + 500000) 1000000 (2 ^ 32) (omega arith) (omega arith)
+-- what a load comes to by a factor, in millionths and then in Wh, fits
+pub losses_fit : (m k r : ℕ) → m ≤ 4000000 → k ≤ 2000000 → r ≤ 500000 → (m * k + r) / 1000000 < 2 ^ 32
+losses_fit m k r hm hk hr =
+    let p : m * k ≤ 4000000 * 2000000 = mul-le m k 4000000 2000000 hm hk in
+    div_below (m * k + r) 1000000 (2 ^ 32) (omega arith) (omega arith)

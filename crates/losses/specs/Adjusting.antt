@@ -1,6 +1,5 @@
 -- What a loss adjustment makes of the load below it. Assumes nothing.
 use Rattle.std.specs.Prelude.{ℕ, ◌+◌, ◌*◌, ◌/◌, ◌≤◌, min, cond, Some, None, Option, nat_le}
-use Rattle.std.specs.Option.{unwrap_or}
 use Rattle.book.specs.Grossing.{Gross, load, fault, no_factor, too_large}
 use Rattle.losses.specs.declared.adjust.Loss.{Loss}
 use Rattle.losses.specs.declared.adjust.Loss.TheVariants.{Unchanged, Missing, Factor}

@@ -1,8 +1,8 @@
 -- An adjusted load keeps the bounds of a load book. Assumes nothing.
-use Rattle.std.specs.Prelude.{ℕ, ◌≤◌, nat_le}
+use Rattle.std.specs.Prelude.{nat_le}
 use Rattle.std.proofs.Common.{zero-le, arith}
 use Rattle.std.proofs.lemmas.Bool.{cond_both, leb-true}
-use Rattle.book.specs.Grossing.{Gross, load, fault, Fault, too_large, Bounded}
+use Rattle.book.specs.Grossing.{Gross, load, fault, too_large, Bounded}
 use Rattle.losses.specs.declared.adjust.Loss.{Loss}
 use Rattle.losses.specs.declared.adjust.Loss.TheVariants.{Unchanged, Missing, Factor}
 use Rattle.losses.specs.Adjusting.{adjusted, grossed_up}

@@ -9,7 +9,7 @@ use Rattle.roll.specs.declared.row.Row.{Row}
 use Rattle.book.specs.Grossing.{Grossing}
 use Rattle.book.specs.Tables.{put_at}
 use Rattle.losses.specs.declared.adjust.Loss.{Loss}
-use Rattle.losses.specs.declared.adjust.Loss.TheVariants.{Unchanged, Missing, Factor}
+use Rattle.losses.specs.declared.adjust.Loss.TheVariants.{Unchanged, Missing}
 use Rattle.losses.specs.Adjusting.{adjusted, given}
 use Rattle.losses.specs.Factors.{Factors}
 

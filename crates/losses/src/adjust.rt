@@ -62,6 +62,7 @@ fn one_up(refusal: Refusal) -> Refusal
 }
 
 /// A load with its losses, to the nearest Wh.
+#[tactic(auto, using(crate::proofs::Adjusting::losses_fit), unfolding(crate::specs::Adjusting::grossed_up))]
 fn with_losses(factor: u32, load: u32) -> u32
     requires factor { factor ≤ 500000 }
     requires load { load ≤ 4000000 }

@@ -1,4 +1,4 @@
-use Rattle.std.proofs.Common.{◌≡◌, ℕ, ◌<◌, map, length, get_or, None, sym, ap, ◌∙◌, arith, length-set}
+use Rattle.std.proofs.Common.{◌≡◌, map, length, get_or, None, sym, ◌∙◌, arith, length-set}
 use lib.ListN.{length-map}
 use Rattle.std.proofs.lemmas.List.Edits.{fill_by_more}
 use Rattle.std.proofs.lemmas.List.{ext_get_or, get_or-map}
@@ -10,15 +10,16 @@ pub loop-segment-preserved : goal.loop-segment-preserved
 loop-segment-preserved c =
     let s = c.loop-segment.segment in
     let codes = c.loop-segment.codes in
-    let rows = rows_of c.args.roll.now in (
-      length-set codes s _ ∙ c.loop-segment.invariant.0,
-      rw c.code_on_roll.ensures (fill_by_more (λ k. roll_code (get_or rows k None)) codes s None (omega arith) c.loop-segment.invariant.1),
-    )
+    let rows = rows_of c.args.roll.now in
+    record {
+      many = length-set codes s _ ∙ c.loop-segment.invariant.many;
+      below = rw c.code_on_roll.ensures (fill_by_more (λ k. roll_code (get_or rows k None)) codes s None (omega arith) c.loop-segment.invariant.below);
+    }
 
 pub returns : goal.returns
 returns c =
     let codes = c.loop-segment.codes in
     let rows = rows_of c.args.roll.now in
-    let many : length codes ≡ length rows = c.loop-segment.invariant.0 ∙ sym c.args.roll.now.places.0 in
+    let many : length codes ≡ length rows = c.loop-segment.invariant.many ∙ sym c.args.roll.now.places.0 in
     ext_get_or None codes (map roll_code rows) (many ∙ sym (length-map rows roll_code))
-    (λ i h. c.loop-segment.invariant.1 i (omega arith) ∙ sym (get_or-map roll_code rows i None None (omega arith)))
+    (λ i h. c.loop-segment.invariant.below i (omega arith) ∙ sym (get_or-map roll_code rows i None None (omega arith)))

@@ -5,6 +5,7 @@ use Rattle.losses.proofs.distribution.layer.codes_of.Given as goal
 
 -- the codes below the segment are those of the roll
 abbrev pub invariant-loop-segment : goal.invariant-loop-segment
-invariant-loop-segment l =
-    (length l.codes ≡ 64)
-    × ((k : ℕ) → k < l.segment → get_or l.codes k None ≡ roll_code (get_or (rows_of l.roll) k None))
+invariant-loop-segment l = record {
+  many : length l.codes ≡ 64;
+  below : (k : ℕ) → k < l.segment → get_or l.codes k None ≡ roll_code (get_or (rows_of l.roll) k None);
+}

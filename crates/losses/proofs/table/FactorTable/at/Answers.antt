@@ -6,7 +6,7 @@ pub returns-else-row : goal.returns-else-row
 returns-else-row g c =
     let self = c.args.self.now in
     let k = c.args.row in
-    let q = c.args.quarter-hour in
+    let q = c.args.quarter_hour in
     record {
       value = ⊎_elim
           (λ late. sym (past_quarter_hours self.rows k q (omega (arith, self.quarter_hours k late.0))))

@@ -6,10 +6,11 @@ use Rattle.losses.specs.Factors.{Lawful}
 use Rattle.losses.proofs.table.FactorTable.empty.Goals as goal
 
 pub invariant_of-result : goal.invariant_of-result
-invariant_of-result g c = (
-  length-replicate g.row.ROWS _,
-  (λ k h. filled_length None g.row.ROWS 100 k h, (λ k q. subst Lawful (sym (filled_cell None g.row.ROWS 100 k q)) zero-le, tt)),
-)
+invariant_of-result g c = record {
+  row_count = length-replicate g.row.ROWS _;
+  quarter_hours = λ k h. filled_length None g.row.ROWS 100 k h;
+  lawful = λ k q. subst Lawful (sym (filled_cell None g.row.ROWS 100 k q)) zero-le;
+}
 
 pub returns : goal.returns
 returns g c = fun_ext (λ k. fun_ext (λ q. filled_cell None g.row.ROWS 100 k q))
