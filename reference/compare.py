@@ -4,7 +4,7 @@
     python3 reference/compare.py [DESK] [--days N] [--seed S] [--batch N] [--odd]
     python3 reference/compare.py --self
 
-DESK is target/bin/desk of this repository if not given. Of an answer line what stands
+DESK is crates/desk/out/desk of this repository if not given. Of an answer line what stands
 after ` = ` is compared, and after a statement its text. Many days go into one input
 (--batch).
 On the first difference the input that led to it is printed, made shorter where that
@@ -123,7 +123,7 @@ def number(answer):
 def main():
     parser = argparse.ArgumentParser(description=__doc__,
                                      formatter_class=argparse.RawDescriptionHelpFormatter)
-    parser.add_argument("desk", nargs="?", default=os.path.join(HOME, "target", "bin", "desk"))
+    parser.add_argument("desk", nargs="?", default=os.path.join(HOME, "crates", "desk", "out", "desk"))
     parser.add_argument("--days", type=int, default=5000)
     parser.add_argument("--seed", default="1")
     parser.add_argument("--batch", type=int, default=50, help="days in one input")
