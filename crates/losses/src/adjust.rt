@@ -72,6 +72,26 @@ fn with_losses(factor: u32, load: u32) -> u32
     ((millionths + 500_000) / 1_000_000) as u32
 }
 
+/// The layer's answer for a segment, by an answer below that holds a load of any size: what is past
+/// the limit of a load book stays past it under any factor.
+pub(crate) fn adjust_any_load(
+    below: Result<u32, Refusal>,
+    loss: Loss,
+    segment: u8,
+) -> Result<u32, Refusal>
+    requires { Small loss }
+    ensures { (q : ℕ) (g : Gross) → below ≡ load_answer segment q g → result ≡ load_answer segment q (adjusted loss g) }
+{
+    match (below, loss) {
+        (Ok(load), Loss::Unchanged) => Ok(load),
+        (Ok(_), Loss::Missing) => Err(Refusal::NoFactor { segment, height: 0 }),
+        (Ok(load), Loss::Factor(_)) if load > 4_000_000 => {
+            Err(Refusal::LoadTooLarge { segment, height: 0 })
+        }
+        _ => adjust(below, loss, segment),
+    }
+}
+
 /// The layer's answer for a segment, by the answer of the book below.
 pub(crate) fn adjust(below: Result<u32, Refusal>, loss: Loss, segment: u8) -> Result<u32, Refusal>
     requires load { unwrap_or (result_ok below) 0 ≤ 4000000 }

@@ -3,7 +3,17 @@ use crate::table::FactorTable;
 use book::LoadBook;
 use roll::LossCode;
 
+pub mod entries;
 pub mod layer;
+
+/// What a distribution adjustment goes by: a loss factor for each loss code and quarter hour, and
+/// the segments' codes from the roll as it was when they were last taken over. It can be filled
+/// before there is a book to lay it over.
+#[derive(Clone, Copy)]
+pub struct DistributionTable {
+    factors: FactorTable<5>,
+    codes: [Option<LossCode>; 64],
+}
 
 /// A load book under a distribution loss factor for each loss code and quarter hour. It knows the
 /// segments' codes from the roll as it was when they were last taken over.

@@ -6,5 +6,5 @@ mod distribution;
 mod table;
 mod transmission;
 
-pub use distribution::Distribution;
-pub use transmission::Transmission;
+pub use distribution::{Distribution, DistributionTable};
+pub use transmission::{Transmission, TransmissionTable};

@@ -31,7 +31,7 @@ fn row_of(code: LossCode) -> Option<usize>
 }
 
 /// What a code's segments lose in a quarter hour.
-fn loss_of(table: &FactorTable<5>, code: Option<LossCode>, quarter_hour: u8) -> Loss
+pub(crate) fn loss_of(table: &FactorTable<5>, code: Option<LossCode>, quarter_hour: u8) -> Loss
     ensures loss { result ≡ loss_by_code (at table.now.rows) quarter_hour code }
     ensures small { Small result }
 {
@@ -45,7 +45,7 @@ fn loss_of(table: &FactorTable<5>, code: Option<LossCode>, quarter_hour: u8) -> 
 }
 
 /// The code that was taken over for a segment, or none.
-fn code_at(codes: &[Option<LossCode>], segment: u8) -> Option<LossCode>
+pub(crate) fn code_at(codes: &[Option<LossCode>], segment: u8) -> Option<LossCode>
     ensures { result ≡ slice_index_or codes.now segment None }
 {
     let at = segment as usize;
@@ -74,7 +74,7 @@ fn code_on_roll(roll: &Roll, segment: u8) -> Option<LossCode>
 }
 
 /// The codes of the whole roll.
-fn codes_of(roll: &Roll) -> [Option<LossCode>; 64]
+pub(crate) fn codes_of(roll: &Roll) -> [Option<LossCode>; 64]
     ensures { result ≡ map roll_code (rows_of roll.now) }
 {
     let mut codes = [None; 64];
@@ -82,6 +82,29 @@ fn codes_of(roll: &Roll) -> [Option<LossCode>; 64]
         codes[segment as usize] = code_on_roll(roll, segment);
     }
     codes
+}
+
+/// Enters the factor of a code's letter and a quarter hour into a table, or says why it does not.
+pub(crate) fn enter_factor(
+    table: &mut FactorTable<5>,
+    letter: u8,
+    quarter_hour: u8,
+    factor: u32,
+) -> Result<(), Refusal>
+    ensures answer { result ≡ factor_answer (letter_row (code_of letter)) quarter_hour factor }
+    ensures factors { at table.new.rows ≡ after_giving result (letter_row (code_of letter)) quarter_hour factor (at table.old.rows) }
+{
+    if quarter_hour > 99 {
+        return Err(Refusal::QuarterHour);
+    }
+    if factor > 500_000 {
+        return Err(Refusal::Factor);
+    }
+    let Some(row) = row_of_letter(letter) else {
+        return Err(Refusal::Factor);
+    };
+    table.give(row, quarter_hour as usize, factor);
+    Ok(())
 }
 
 impl<B: LoadBook + Drop> Distribution<B> {
@@ -107,17 +130,7 @@ impl<B: LoadBook + Drop> Distribution<B> {
         ensures factors { at self.new.table.rows ≡ after_giving result (letter_row (code_of letter)) quarter_hour factor (at self.old.table.rows) }
         ensures grossing { distributed self.new.codes (at self.new.table.rows) (B.LoadBook.grossing self.new.below) ≡ distributed self.old.codes (after_giving result (letter_row (code_of letter)) quarter_hour factor (at self.old.table.rows)) (B.LoadBook.grossing self.old.below) }
     {
-        if quarter_hour > 99 {
-            return Err(Refusal::QuarterHour);
-        }
-        if factor > 500_000 {
-            return Err(Refusal::Factor);
-        }
-        let Some(row) = row_of_letter(letter) else {
-            return Err(Refusal::Factor);
-        };
-        self.table.give(row, quarter_hour as usize, factor);
-        Ok(())
+        enter_factor(&mut self.table, letter, quarter_hour, factor)
     }
 
     /// Takes over the loss codes of a roll, all at once. A segment that is not on it has none.

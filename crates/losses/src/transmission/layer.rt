@@ -1,5 +1,5 @@
 // The transmission adjustment as a load book, and how its factors are given.
-ghost use Rattle.std.specs.Prelude.{◌≡◌, Some};
+ghost use Rattle.std.specs.Prelude.{◌≡◌, ◌≤◌, OnOk, Some};
 ghost use Rattle.losses.specs.Adjusting.{given};
 ghost use Rattle.losses.specs.Bounds.{adjusted_bounded};
 ghost use Rattle.book.specs.Tables.{at, blank};
@@ -10,6 +10,21 @@ use crate::table::FactorTable;
 use crate::transmission::Transmission;
 use book::LoadBook;
 use refusal::Refusal;
+
+/// Whether a factor can be given for a quarter hour.
+pub(crate) fn check_factor(quarter_hour: u8, factor: u32) -> Result<(), Refusal>
+    ensures answer { result ≡ factor_answer (Some 0) quarter_hour factor }
+    ensures quarter_hour { OnOk result (quarter_hour ≤ 99) }
+    ensures factor { OnOk result (factor ≤ 500000) }
+{
+    if quarter_hour > 99 {
+        return Err(Refusal::QuarterHour);
+    }
+    if factor > 500_000 {
+        return Err(Refusal::Factor);
+    }
+    Ok(())
+}
 
 impl<B: LoadBook + Drop> Transmission<B> {
     /// The layer over a book, with no factor given.
@@ -30,12 +45,7 @@ impl<B: LoadBook + Drop> Transmission<B> {
         ensures factors { at self.new.table.rows ≡ after_giving result (Some 0) quarter_hour factor (at self.old.table.rows) }
         ensures grossing { transmitted (at self.new.table.rows) (B.LoadBook.grossing self.new.below) ≡ transmitted (after_giving result (Some 0) quarter_hour factor (at self.old.table.rows)) (B.LoadBook.grossing self.old.below) }
     {
-        if quarter_hour > 99 {
-            return Err(Refusal::QuarterHour);
-        }
-        if factor > 500_000 {
-            return Err(Refusal::Factor);
-        }
+        check_factor(quarter_hour, factor)?;
         self.table.give(0, quarter_hour as usize, factor);
         Ok(())
     }

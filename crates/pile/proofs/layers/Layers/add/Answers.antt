@@ -1,4 +1,4 @@
-use Rattle.std.proofs.Common.{Some, sym, refl, lt-ltb}
+use Rattle.std.proofs.Common.{Some, refl, lt-ltb}
 use Rattle.std.specs.Option.{option_map}
 use lib.Seq.{map-set}
 use Rattle.pile.specs.Layers.{meaning_of}

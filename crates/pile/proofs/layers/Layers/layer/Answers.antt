@@ -1,4 +1,4 @@
-use Rattle.std.proofs.Common.{◌≡◌, ℕ, ◌-◌, ◌<◌, ◌≤◌, true, false, cond, eqb, List, map, length, get_or, None, Option, sym, refl, ◌∙◌, ⊎_elim, arith, eq-eqb, ne_eqb}
+use Rattle.std.proofs.Common.{◌≡◌, ℕ, ◌-◌, ◌<◌, ◌≤◌, List, map, length, get_or, None, Option, sym, ◌∙◌, ⊎_elim, arith, eq-eqb, ne_eqb}
 use borrow.Author.Tests.{clash}
 use lib.ListN.{length-map}
 use Rattle.std.specs.Option.{option_map}
