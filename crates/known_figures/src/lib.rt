@@ -4,6 +4,8 @@
 #[cfg(test)]
 mod answers;
 #[cfg(test)]
+mod balances;
+#[cfg(test)]
 mod books;
 #[cfg(test)]
 mod factors;

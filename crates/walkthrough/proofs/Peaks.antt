@@ -1,9 +1,8 @@
 -- The best place that a search ends with is the first of the largest. Assumes nothing.
-use Rattle.std.proofs.Common.{◌≡◌, ℕ, zero, suc, ◌+◌, ◌<◌, ◌≤◌, max, Bool, true, false, ltb, List, [], ◌∷◌, length, get_or, sym, refl, ap, ◌∙◌, arith}
+use Rattle.std.proofs.Common.{◌≡◌, ℕ, zero, suc, ◌<◌, ◌≤◌, Bool, true, false, ltb, List, [], ◌∷◌, length, get_or, ◌∙◌, arith}
 use native.Mathlib.Nat.{max-le, le-max_left, le-max_right}
 use Rattle.std.specs.List.{prefix_len, IsFirstMaxByKey}
 use Rattle.std.proofs.lemmas.Bool.{cond-true, cond-false, lt-ltb, le-ltb}
-use Rattle.walkthrough.specs.declared.figures.Peak.{Peak}
 use Rattle.walkthrough.specs.Figures.{largest_of, first_largest}
 
 largest_least : (xs : List ℕ) (m : ℕ) → ((k : ℕ) → k < length xs → get_or xs k 0 ≤ m) → largest_of xs ≤ m

@@ -1,5 +1,5 @@
 -- The days of a month, one after the other. Assumes nothing.
-use Rattle.std.proofs.Common.{◌≡◌, ℕ, zero, suc, ◌+◌, ◌-◌, ◌*◌, ◌/◌, ◌<◌, ◌≤◌, Bool, true, false, cond, not, ◌&&◌, List, Ok, Err, sum, Result, sym, refl, ap, ◌∙◌, suc-add, mul-zero, zero-add, mul-div_cancel, add-one, arith}
+use Rattle.std.proofs.Common.{◌≡◌, ℕ, zero, suc, ◌+◌, ◌-◌, ◌*◌, ◌/◌, ◌<◌, Bool, true, false, cond, not, List, Ok, Err, sum, Result, sym, refl, ap, ◌∙◌, suc-add, mul-zero, zero-add, mul-div_cancel, add-one, arith}
 use native.Mathlib.Nat.{zero-div}
 use Rattle.std.proofs.lemmas.Bool.{and_parts}
 use Rattle.refusal.specs.declared.Refusal.{Refusal}

@@ -7,7 +7,7 @@ use Rattle.refusal.specs.declared.Refusal.{Refusal}
 use Rattle.refusal.specs.declared.Refusal.TheVariants.{NoReading, NoFactor}
 use Rattle.roll.specs.declared.row.Row.{Row}
 use Rattle.book.specs.Answers.{load_answer}
-use Rattle.book.specs.Cells.{Standing, nothing, put}
+use Rattle.book.specs.Cells.{Standing, put}
 use Rattle.book.specs.Grossing.{Grossing, plainly}
 use Rattle.book.specs.Tables.{blank, put_at}
 use Rattle.losses.specs.Factors.{Factors}

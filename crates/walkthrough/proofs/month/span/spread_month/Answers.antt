@@ -1,4 +1,4 @@
-use Rattle.std.proofs.Common.{◌≡◌, ℕ, ◌+◌, ◌*◌, ◌/◌, Ok, sum, ap, ◌∙◌, arith}
+use Rattle.std.proofs.Common.{◌≡◌, ℕ, ◌*◌, ◌/◌, ap, ◌∙◌, arith}
 use Rattle.std.proofs.lemmas.Result.{err_from_is_err_and}
 use Rattle.walkthrough.specs.Spans.{weight_before, days_total}
 use Rattle.walkthrough.proofs.Spans.{none_used, none_yet, used_more, total_more, total_refused, all_used}
@@ -7,10 +7,10 @@ use Rattle.walkthrough.proofs.month.span.spread_month.Goals as goal
 pub loop-day-init : goal.loop-day-init
 loop-day-init c = (none_yet _ _, none_used c.args.shapes.now c.args.energy, λ h. omega arith, omega arith)
 
-pub returns-in-err-readings : goal.returns-in-err-readings
-returns-in-err-readings c =
-    let p = err_from_is_err_and c.from-residual.result c.from-residual.ensures.1 in
-    let refused = total_refused c.args.shapes.now c.args.energy c.loop-day.day c.loop-day.sum _ c.loop-day.invariant.0 c.in-err-readings.ensures (omega arith) in
+pub returns-in_err-readings : goal.returns-in_err-readings
+returns-in_err-readings c =
+    let p = err_from_is_err_and c.from_residual.result c.from_residual.ensures.1 in
+    let refused = total_refused c.args.shapes.now c.args.energy c.loop-day.day c.loop-day.sum _ c.loop-day.invariant.0 c.in_err-readings.ensures (omega arith) in
     record { days = rw (p.1, p.2) refused; whole = rw p.1 tt }
 
 pub loop-day-preserved : goal.loop-day-preserved
@@ -18,9 +18,9 @@ loop-day-preserved c =
     let s = c.args.shapes.now in
     let K = c.args.energy in
     let d = c.loop-day.day in
-    let readings = c.in-ok-readings.readings in
-    let more = total_more s K d c.loop-day.sum readings c.loop-day.invariant.0 c.in-ok-readings.ensures in
-    let used = used_more s K d readings c.in-ok-readings.ensures in
+    let readings = c.in_ok-readings.readings in
+    let more = total_more s K d c.loop-day.sum readings c.loop-day.invariant.0 c.in_ok-readings.ensures in
+    let used = used_more s K d readings c.in_ok-readings.ensures in
     (rw c.total-sum.ensures.sum more, omega arith, λ h. used.1, omega (arith, c.total-sum.ensures.limit))
 
 pub returns : goal.returns

@@ -10,10 +10,10 @@ use Rattle.walkthrough.proofs.pile.work.work_out.Goals as goal
 pub returns : goal.returns
 unfolding put grossed_up
 returns c =
-    let rows = ap (λ (x : Roll). rows_of x) c.roll-roll.ensures ∙ c.in-ok-draft.ensures in
+    let rows = ap (λ (x : Roll). rows_of x) c.roll-roll.ensures ∙ c.in_ok-draft.ensures in
     climbs_same
-    (known_climb _ _ 0 48 rows c.in-ok-climb-from-grid.ensures)
-    (known_climb _ _ 2 48 rows c.in-ok-climb-from-grid-2.ensures)
-    (known_climb _ _ 5 48 rows c.in-ok-climb-from-grid-3.ensures)
-    (known_climb _ _ 0 49 rows c.in-ok-climb-from-grid-4.ensures)
-    c.in-ok-at-once.ensures
+    (known_climb _ _ 0 48 rows c.in_ok-climb_from_grid.ensures)
+    (known_climb _ _ 2 48 rows c.in_ok-climb_from_grid-2.ensures)
+    (known_climb _ _ 5 48 rows c.in_ok-climb_from_grid-3.ensures)
+    (known_climb _ _ 0 49 rows c.in_ok-climb_from_grid-4.ensures)
+    c.in_ok-at_once.ensures
