@@ -2,7 +2,7 @@
 ghost use Rattle.std.specs.Prelude.{◌≡◌, true, map, length, pos, is_ok, if◌then◌else◌};
 ghost use Rattle.std.specs.List.{range_with_len};
 ghost use Rattle.split.specs.Parts.{sum_of};
-ghost use Rattle.balance.specs.Balance.{ufe as ufeOf, adjusted, rtaml as rtamlOf, shares as shares_of};
+ghost use Rattle.balance.specs.Balance.{ufe as ufe_of, adjusted, rtaml as rtaml_of, shares as shares_of};
 ghost use Rattle.balance.specs.Gathering.{quarter_in};
 ghost use Rattle.balance.specs.Laws.{Balanced};
 ghost use Rattle.balance.specs.Quarter.{sheet_of, refusal_of_quarter, refusal_of_shares};
@@ -79,7 +79,7 @@ pub fn rtaml<B: LoadBook>(
     qse: u8,
     point: u8,
 ) -> Result<i64, Refusal>
-    ensures answer { result ≡ ok_unless (or_else (late_at quarter_hour) (or_else (nowhere qse point) (refusal_of_quarter (quarter_in roll.now (B.LoadBook.grossing book.now) (B.LoadBook.standing book.now) figures.now quarter_hour)))) (rtamlOf (sheet_of (quarter_in roll.now (B.LoadBook.grossing book.now) (B.LoadBook.standing book.now) figures.now quarter_hour)) qse point) }
+    ensures answer { result ≡ ok_unless (or_else (late_at quarter_hour) (or_else (nowhere qse point) (refusal_of_quarter (quarter_in roll.now (B.LoadBook.grossing book.now) (B.LoadBook.standing book.now) figures.now quarter_hour)))) (rtaml_of (sheet_of (quarter_in roll.now (B.LoadBook.grossing book.now) (B.LoadBook.standing book.now) figures.now quarter_hour)) qse point) }
     ensures law { is_ok result ≡ true → Balanced (sheet_of (quarter_in roll.now (B.LoadBook.grossing book.now) (B.LoadBook.standing book.now) figures.now quarter_hour)) }
 {
     if quarter_hour > 99 {
@@ -108,7 +108,7 @@ pub fn generation_and_ufe<B: LoadBook>(
     figures: &Figures,
     quarter_hour: u8,
 ) -> Result<Ufe, Refusal>
-    ensures answer { result ≡ ok_unless (or_else (late_at quarter_hour) (refusal_of_quarter (quarter_in roll.now (B.LoadBook.grossing book.now) (B.LoadBook.standing book.now) figures.now quarter_hour))) (record { generation = (sheet_of (quarter_in roll.now (B.LoadBook.grossing book.now) (B.LoadBook.standing book.now) figures.now quarter_hour)).generation; ufe = ufeOf (sheet_of (quarter_in roll.now (B.LoadBook.grossing book.now) (B.LoadBook.standing book.now) figures.now quarter_hour)) }) }
+    ensures answer { result ≡ ok_unless (or_else (late_at quarter_hour) (refusal_of_quarter (quarter_in roll.now (B.LoadBook.grossing book.now) (B.LoadBook.standing book.now) figures.now quarter_hour))) (record { generation = (sheet_of (quarter_in roll.now (B.LoadBook.grossing book.now) (B.LoadBook.standing book.now) figures.now quarter_hour)).generation; ufe = ufe_of (sheet_of (quarter_in roll.now (B.LoadBook.grossing book.now) (B.LoadBook.standing book.now) figures.now quarter_hour)) }) }
     ensures law { is_ok result ≡ true → Balanced (sheet_of (quarter_in roll.now (B.LoadBook.grossing book.now) (B.LoadBook.standing book.now) figures.now quarter_hour)) }
 {
     match balance_of(roll, book, figures, quarter_hour) {

@@ -2,7 +2,7 @@
 ghost use Rattle.std.specs.Prelude.{◌≡◌, ℕ, ◌<◌, ◌≤◌, map, length, get_or, pos, None, slice_index_or, unsigned_abs};
 ghost use Rattle.book.specs.Tables.{cell};
 ghost use Rattle.split.specs.Parts.{parts_of};
-ghost use Rattle.balance.specs.Balance.{ufe as ufeOf, weighted as weightedOf, weights, stranded};
+ghost use Rattle.balance.specs.Balance.{ufe as ufe_of, weighted as weighted_of, weights, stranded};
 ghost use Rattle.balance.specs.Settling.{Holds, Settled, SplitAs, sheet_in};
 ghost use Rattle.balance.specs.Sheets.{Shaped, row_weight_z};
 ghost use Rattle.balance.specs.Totals.{total};
@@ -57,9 +57,9 @@ fn split_ufe(rows: &[LoadedRow; 64], ufe: i64, weighted: u32) -> Result<[i64; 64
 fn carry(rows: &[LoadedRow; 64], generation: i64, ufe: i64, parts: &[i64; 64]) -> Balance
     requires rows { length rows.now ≡ 64 }
     requires generation { unsigned_abs generation ≤ 160000000 }
-    requires ufe { ufe ≡ ufeOf (sheet_in rows.now generation) }
+    requires ufe { ufe ≡ ufe_of (sheet_in rows.now generation) }
     requires carried { stranded (sheet_in rows.now generation) ≡ None }
-    requires parts { parts.now ≡ parts_of (ufeOf (sheet_in rows.now generation)) (weightedOf (sheet_in rows.now generation)) 0 (weights (sheet_in rows.now generation)) }
+    requires parts { parts.now ≡ parts_of (ufe_of (sheet_in rows.now generation)) (weighted_of (sheet_in rows.now generation)) 0 (weights (sheet_in rows.now generation)) }
     ensures { Holds (sheet_in rows.now generation) result }
 {
     let adjusted = add_parts(rows, parts);

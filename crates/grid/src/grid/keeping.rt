@@ -83,7 +83,7 @@ impl Grid<'_> {
     /// Takes a cell's mark away.
     pub(super) fn empty(&mut self, segment: u8, quarter_hour: u8)
         requires segment_bound { (segment < 64) × (quarter_hour < 100) }
-        requires quarter_hour_value { is_some (standing_of self.old segment quarter_hour) ≡ true }
+        requires reading_stands { is_some (standing_of self.old segment quarter_hour) ≡ true }
         ensures after { standing_of self.new ≡ put (standing_of self.old) segment quarter_hour None }
         ensures places { places_of self.new ≡ places_of self.old }
     {
