@@ -21,6 +21,7 @@ impl Layers {
     }
 
     /// Puts a layer on top and answers its number; or answers none, where there are four.
+    #[tactic(auto, using(crate::proofs::Putting::meanings_after_putting))]
     pub fn add(&mut self, layer: Layer) -> Option<usize>
         ensures answer { result ≡ (if nat_lt (height_of self.old) 4 then Some (height_of self.old + 1) else None) }
         ensures layers { layers_of self.new ≡ (if is_some result then slice_set (layers_of self.old) (height_of self.old) (Some (meaning_of layer)) else layers_of self.old) }
@@ -52,6 +53,7 @@ impl Layers {
     }
 
     /// Puts a layer in the place of another.
+    #[tactic(auto, using(crate::proofs::Putting::meanings_after_putting))]
     fn put(&mut self, number: usize, layer: Layer)
         requires number { (1 ≤ number) × (number ≤ 4) }
         ensures layers { layers_of self.new ≡ slice_set (layers_of self.old) (number - 1) (Some (meaning_of layer)) }
