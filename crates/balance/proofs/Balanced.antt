@@ -1,5 +1,5 @@
 -- The laws of a balance. Assumes nothing.
-use Rattle.std.proofs.Common.{◌≡◌, ℕ, ◌+◌, ◌*◌, ◌<◌, ◌≤◌, Bool, true, false, cond, not, ◌&&◌, eqb, leb, List, map, length, get_or, ℤ, pos, ◌+ℤ◌, ◌-ℤ◌, ◌*ℤ◌, nat_abs, ◌≤ℤ◌, ◌<ℤ◌, is_some, Some, None, Option, sym, refl, ap, ◌∙◌, subst, ⊎_elim, arith}
+use Rattle.std.proofs.Common.{◌≡◌, ℕ, ◌<◌, ◌≤◌, Bool, true, false, cond, ◌&&◌, eqb, leb, List, map, length, get_or, ℤ, pos, ◌+ℤ◌, ◌-ℤ◌, ◌*ℤ◌, nat_abs, ◌≤ℤ◌, ◌<ℤ◌, is_some, Some, None, Option, sym, refl, ap, ◌∙◌, subst, arith}
 use borrow.Author.Differences.{ints, abs_is}
 use Rattle.std.specs.List.{range_with_len, AllByRecursion as All}
 use Rattle.std.proofs.lemmas.List.FromFn.{length-map-range_with_len, get_or-map-range_with_len}
@@ -13,9 +13,9 @@ use Rattle.split.specs.Parts.{sum_of, part_at, parts_of}
 use Rattle.split.proofs.Fair.{fair, parts_of_none}
 use Rattle.split.proofs.Integers.{*ℤ-distrib-right}
 use Rattle.book.proofs.Tables.{slice_index_or_all_same}
-use Rattle.balance.specs.Balance.{Sheet, metered, ufe, weight_in, weight_of, weights, weighted, stranded, adjusted, belongs, rtaml, qse_load, rtamltot, shares}
+use Rattle.balance.specs.Balance.{Sheet, metered, ufe, weight_in, weight_of, weights, weighted, adjusted, belongs, rtaml, qse_load, rtamltot, shares}
 use Rattle.balance.specs.Laws.{Balanced}
-use Rattle.balance.specs.Totals.{total, count}
+use Rattle.balance.specs.Totals.{total}
 use Rattle.balance.proofs.Totals.{total_same, total_add, total_zero, total_none, total_swap, total_pick, total_pos, sum_of_counting, total_some_up, total_some_down, count_most}
 
 -- ---- plain arithmetic

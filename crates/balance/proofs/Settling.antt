@@ -1,5 +1,5 @@
 -- What the program adds up is what the sheet says. Assumes nothing.
-use Rattle.std.proofs.Common.{◌≡◌, ℕ, ◌<◌, ◌≤◌, Bool, true, false, cond, List, map, length, get_or, take, ℤ, pos, ◌+ℤ◌, nat_abs, is_some, Some, None, Ok, Err, sum_by, Option, sym, refl, ap, ◌∙◌, subst, ⊎_elim, zero-le, arith, take_all}
+use Rattle.std.proofs.Common.{◌≡◌, ℕ, ◌<◌, ◌≤◌, cond, List, map, length, get_or, ℤ, pos, ◌+ℤ◌, nat_abs, Some, None, Ok, Err, sum_by, sym, refl, ap, ◌∙◌, subst, ⊎_elim, zero-le, arith, take_all}
 use lib.ListN.{length-map}
 use borrow.Author.Differences.{ints, abs_is}
 use Rattle.std.specs.List.{range_with_len}
@@ -8,11 +8,10 @@ use Rattle.std.proofs.lemmas.List.{get_or-map, get_or_past}
 use Rattle.std.proofs.lemmas.Bool.{cases_lt}
 use Rattle.std.proofs.lemmas.Bool.Decides.{nat_tests}
 use Rattle.refusal.specs.declared.Refusal.{Refusal}
-use Rattle.roll.specs.Ranges.{ranged}
 use Rattle.split.specs.Answer.{split_answer}
-use Rattle.split.specs.Parts.{part_at, parts_of}
+use Rattle.split.specs.Parts.{parts_of}
 use Rattle.balance.specs.declared.row.LoadedRow.{LoadedRow}
-use Rattle.balance.specs.Balance.{Sheet, metered, ufe, weight_in, weight_of, weights, weighted, uncarried, adjusted, belongs, rtaml, qse_load}
+use Rattle.balance.specs.Balance.{Sheet, metered, ufe, weight_of, weights, weighted, uncarried, adjusted, belongs, rtaml, qse_load}
 use Rattle.balance.specs.Settling.{blank_row, sheet_in}
 use Rattle.balance.specs.Sheets.{row_load, weight_of_row, row_weight_z, pair_sum}
 use Rattle.balance.specs.Totals.{total, count}

@@ -1,5 +1,5 @@
 -- Sums over rows, one row at a time, and how heavy a row can be. Assumes nothing.
-use Rattle.std.proofs.Common.{◌≡◌, ℕ, ◌+◌, ◌*◌, ◌<◌, ◌≤◌, Bool, true, false, cond, ◌&&◌, eqb, List, [], length, get_or, take, set, ℤ, pos, ◌+ℤ◌, Some, None, sum_by, Option, sym, refl, ap, ◌∙◌, zero-le, arith}
+use Rattle.std.proofs.Common.{◌≡◌, ℕ, ◌+◌, ◌<◌, ◌≤◌, Bool, true, false, cond, ◌&&◌, eqb, List, [], length, get_or, take, set, ℤ, pos, ◌+ℤ◌, Some, None, sum_by, Option, sym, refl, ap, ◌∙◌, zero-le, arith}
 use lib.IntN.{+ℤ_idr}
 use Rattle.std.proofs.lemmas.Nat.{mul-le}
 use Rattle.std.proofs.lemmas.List.Sums.{sum_by_more}

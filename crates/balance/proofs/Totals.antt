@@ -1,5 +1,5 @@
 -- Laws of sums over the numbers below a limit. Assumes nothing.
-use Rattle.std.proofs.Common.{◌≡◌, ℕ, zero, suc, ◌+◌, ◌-◌, ◌*◌, ◌<◌, ◌≤◌, Bool, true, false, cond, eqb, List, [], ◌∷◌, ◌++◌, map, length, get_or, take, ℤ, pos, negsuc, ◌+ℤ◌, ◌-ℤ◌, ◌*ℤ◌, nat_abs, ◌≤ℤ◌, Some, None, sum_by, Option, sym, refl, ap, ◌∙◌, subst, ⊎_elim, suc-mul, suc-add, zero-add, zero-mul, add-one, arith, take_all}
+use Rattle.std.proofs.Common.{◌≡◌, ℕ, zero, suc, ◌+◌, ◌-◌, ◌*◌, ◌<◌, ◌≤◌, Bool, true, false, cond, eqb, List, [], ◌∷◌, map, length, get_or, take, ℤ, pos, ◌+ℤ◌, nat_abs, ◌≤ℤ◌, Some, None, sum_by, Option, sym, refl, ap, ◌∙◌, subst, ⊎_elim, suc-mul, suc-add, zero-add, zero-mul, add-one, arith}
 use borrow.Author.Differences.{ints, abs_is}
 use Rattle.std.specs.List.{range_with_len}
 use Rattle.std.proofs.lemmas.List.FromFn.{map-range_with_len_more}

@@ -1,7 +1,7 @@
 -- What a reader of a balance relies on. Assumes nothing.
-use Rattle.std.specs.Prelude.{◌≡◌, ℕ, ◌<◌, false, ℤ, pos, ◌+ℤ◌, ◌-ℤ◌, ◌*ℤ◌, ◌<ℤ◌, is_some, unsigned_abs}
+use Rattle.std.specs.Prelude.{◌≡◌, ℕ, ◌<◌, false, pos, ◌+ℤ◌, ◌-ℤ◌, ◌*ℤ◌, ◌<ℤ◌, is_some, unsigned_abs}
 use Rattle.split.specs.Parts.{sum_of}
-use Rattle.balance.specs.Balance.{Sheet, weight_of, weighted, ufe, adjusted, rtaml, qse_load, rtamltot, shares}
+use Rattle.balance.specs.Balance.{Sheet, weight_of, weighted, ufe, adjusted, rtaml, rtamltot, shares}
 use Rattle.balance.specs.Totals.{total}
 
 pub record Balanced (y : Sheet) : Type 0 where

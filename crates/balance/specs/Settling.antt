@@ -1,5 +1,5 @@
 -- A balance as the program holds it. Assumes nothing.
-use Rattle.std.specs.Prelude.{◌≡◌, ℕ, ◌<◌, List, map, ℤ, pos, Some, None, Ok, Err, Option, Result, slice_index_or, refl}
+use Rattle.std.specs.Prelude.{◌≡◌, ℕ, ◌<◌, List, map, ℤ, pos, Some, None, Ok, Err, Result, slice_index_or, refl}
 use Rattle.std.proofs.Common.{zero-le}
 use Rattle.std.specs.List.{range_with_len}
 use Rattle.refusal.specs.declared.Refusal.{Refusal}

@@ -1,5 +1,5 @@
 -- Rows with their loads, added up. Assumes nothing.
-use Rattle.std.specs.Prelude.{◌≡◌, ℕ, ◌<◌, Bool, cond, ◌&&◌, List, [], length, get_or, ℤ, pos, Some, None, Option, ◌==◌, slice_index_or}
+use Rattle.std.specs.Prelude.{◌≡◌, ℕ, ◌<◌, cond, ◌&&◌, List, [], length, get_or, ℤ, pos, Some, None, Option, ◌==◌, slice_index_or}
 use Rattle.roll.specs.declared.row.Row.{Row}
 use Rattle.balance.specs.declared.row.LoadedRow.{LoadedRow}
 use Rattle.balance.specs.Balance.{weight_in, belongs}

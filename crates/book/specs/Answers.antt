@@ -1,5 +1,5 @@
 -- What each call of a load book answers, by what stands, the places and the grossing. Assumes nothing.
-use Rattle.std.specs.Prelude.{ℕ, ◌-◌, Bool, true, false, cond, not, ◌&&◌, is_some, Some, None, Ok, Err, Option, Result, ◌==◌, nat_lt}
+use Rattle.std.specs.Prelude.{ℕ, Bool, cond, not, ◌&&◌, is_some, Ok, Err, Option, Result, ◌==◌, nat_lt}
 use Rattle.std.specs.Option.{ok_or}
 use Rattle.refusal.specs.declared.Refusal.{Refusal}
 use Rattle.refusal.specs.declared.Refusal.TheVariants.{SegmentNumber, QuarterHour, Reading, NoPlace, NothingStands}

@@ -1,7 +1,7 @@
 -- What stands in a load book. Assumes nothing.
 --     a cell      a segment (0 to 63) and a quarter hour (0 to 99)
 --     standing    the reading that a cell holds, or none
-use Rattle.std.specs.Prelude.{◌≡◌, ℕ, ◌≤◌, Bool, true, cond, ◌&&◌, is_some, Some, None, sum_by, count_by, Option, ◌==◌}
+use Rattle.std.specs.Prelude.{ℕ, ◌≤◌, Bool, cond, ◌&&◌, is_some, Some, None, sum_by, count_by, Option, ◌==◌}
 use Rattle.std.specs.List.{range_with_len}
 
 abbrev pub Standing : Type 0

@@ -12,7 +12,7 @@ use Rattle.posting.specs.Rows.{crowded, having, row_answer}
 use Rattle.posting.proofs.Laying.{day_length}
 use Rattle.balance.specs.Questions.{ok_unless}
 use Rattle.balance.specs.Totals.{or_else}
-use Rattle.day.specs.Entries.{no_segment, spread_in, unspread, why_not, segment_off_roll, no_places, profiled_refusal, profiled_answer}
+use Rattle.day.specs.Entries.{spread_in, unspread, why_not, segment_off_roll, no_places, profiled_refusal, profiled_answer}
 use Rattle.day.specs.Slate.{Setting, Slate, readings_of}
 
 abbrev pub slate_with : Standing → (ℕ → ℕ → Option ℤ) → Slate

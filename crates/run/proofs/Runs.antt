@@ -1,19 +1,16 @@
 -- From the last call of a list to the law over it. Assumes nothing.
-use Rattle.std.proofs.Common.{◌≡◌, ℕ, ◌<◌, ◌≤◌, Bool, true, false, cond, List, length, get_or, take, ℤ, pos, is_some, Some, None, Ok, Err, fold, Option, Result, sym, refl, ap, ◌∙◌, subst, le_refl, arith}
+use Rattle.std.proofs.Common.{◌≡◌, ℕ, ◌<◌, Bool, true, false, cond, List, length, get_or, take, ℤ, pos, is_some, Some, None, Ok, fold, Option, sym, refl, ap, ◌∙◌, le_refl}
 use Rattle.std.proofs.lemmas.List.{take_all}
 use Rattle.refusal.specs.declared.Refusal.{Refusal}
 use Rattle.roll.specs.Ranges.{ranged}
 use Rattle.split.specs.Parts.{sum_of}
 use Rattle.book.specs.declared.LoadBook.{Ghosts}
-use Rattle.balance.specs.Laws.{Balanced}
 use Rattle.balance.specs.Quarter.{Quarter, refusal_of_quarter, refusal_of_shares}
 use Rattle.balance.specs.Questions.{ok_unless}
-use Rattle.balance.specs.Totals.{or_else}
 use Rattle.day.specs.Entries.{late}
 use Rattle.day.specs.Questions.{quarter_at, sheet_at, loads_refusal, loads_at, shares_refusal, shares_at}
 use Rattle.day.specs.Slate.{Setting, Slate}
 use Rattle.day.proofs.Balances.{none_later, quarter_balanced, loads_come_to, shares_come_to}
-use Rattle.run.specs.declared.any_day.AnyDay.{AnyDay}
 use Rattle.run.specs.declared.call.Answer.{Answer}
 use Rattle.run.specs.declared.call.Answer.TheVariants as answer
 use Rattle.run.specs.declared.call.Call.{Call}
@@ -21,7 +18,7 @@ use Rattle.run.specs.declared.call.Call.TheVariants as call
 use Rattle.run.specs.declared.call.DayState.{DayState}
 use Rattle.run.specs.declared.call.Question.TheVariants as ask
 use Rattle.run.specs.declared.whole.Run.{Run}
-use Rattle.run.specs.Courses.{Course, opened, course_of, answer_to, stepped, next_if}
+use Rattle.run.specs.Courses.{opened, course_of, answer_to, stepped, next_if}
 use Rattle.run.specs.Holding.{course_of_any}
 use Rattle.run.specs.Law.{slate_at, Answered, Left}
 use Rattle.run.proofs.Courses.{SoFar}

@@ -1,5 +1,5 @@
 -- The law over every run of calls. Assumes nothing.
-use Rattle.std.specs.Prelude.{◌≡◌, ℕ, ◌<◌, ◌≤◌, Bool, List, length, take, ℤ, pos, None, Ok, Err, Result, ◌≢◌, slice_index_or}
+use Rattle.std.specs.Prelude.{◌≡◌, ℕ, ◌<◌, List, length, take, ℤ, pos, None, Ok, Err, Result, ◌≢◌, slice_index_or}
 use Rattle.refusal.specs.declared.Refusal.TheVariants.{ListLength}
 use Rattle.roll.specs.declared.draft.Draft.{Draft}
 use Rattle.roll.specs.Drafts.{day_of, roll_of}

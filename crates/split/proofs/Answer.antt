@@ -1,8 +1,8 @@
 -- What an accepted split tells. Assumes nothing.
-use Rattle.std.proofs.Common.{◌≡◌, ℕ, ℤ, pos, nat_abs, Ok, Err, arith}
+use Rattle.std.proofs.Common.{◌≡◌, ℕ, ℤ, pos, nat_abs, Ok, arith}
 use borrow.Author.Differences.{ints, abs_is}
 use Rattle.std.proofs.lemmas.Bool.Decides.{nat_tests}
-use Rattle.split.specs.Answer.{split_answer, stranded}
+use Rattle.split.specs.Answer.{split_answer}
 
 pub accepted_lengths : (amount : ℤ) (whole n m : ℕ) (u : Unit {0}) → Ok u ≡ split_answer amount whole n m → m ≡ n
 accepted_lengths amount whole n m u e = grind (arith, nat_tests)

@@ -1,5 +1,5 @@
 -- What the floor of a fraction is, and how it is taken further by a carried remainder. Assumes nothing.
-use Rattle.std.proofs.Common.{◌≡◌, ℕ, suc, ◌+◌, ◌-◌, ◌*◌, ◌/◌, ◌%◌, ◌<◌, ◌≤◌, ℤ, pos, negsuc, ◌+ℤ◌, ◌-ℤ◌, ◌*ℤ◌, sym, refl, ap, ◌∙◌, mod-lt, mul_comm, add-mul, lt_of_mul-lt-mul_right, arith}
+use Rattle.std.proofs.Common.{◌≡◌, ℕ, suc, ◌+◌, ◌-◌, ◌*◌, ◌/◌, ◌%◌, ◌<◌, ℤ, pos, negsuc, ◌+ℤ◌, ◌*ℤ◌, sym, ap, ◌∙◌, mod-lt, mul_comm, add-mul, lt_of_mul-lt-mul_right, arith}
 use native.Mathlib.Nat.{div-add-mod}
 use borrow.Author.Differences.{ints, up, down, same_in, sum_is_lem, product_is}
 use Rattle.split.specs.Floor.{floor, rest}

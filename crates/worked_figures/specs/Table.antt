@@ -1,5 +1,5 @@
 -- Worked figures, computed from the definitions that the contracts cite. Assumes nothing.
-use Rattle.std.specs.Prelude.{◌≡◌, ℕ, List, [], ◌∷◌, ◌++◌, map, take, ℤ, pos, negsuc, neg_ℤ, Some, None, Option, slice_index, slice_index_or}
+use Rattle.std.specs.Prelude.{ℕ, List, [], ◌∷◌, ◌++◌, map, take, ℤ, pos, negsuc, neg_ℤ, Some, None, Option, slice_index, slice_index_or}
 use Rattle.refusal.specs.declared.Refusal.{Refusal}
 use Rattle.refusal.specs.Table.{answer_of}
 use Rattle.roll.specs.declared.row.LossCode.{LossCode}

@@ -1,4 +1,4 @@
-use Rattle.std.proofs.Common.{◌≡◌, ℕ, ◌<◌, map, length, get_or, ℤ, pos, ◌+ℤ◌, ◌*ℤ◌, sym, ap, ◌∙◌, arith, w32, w64, SFits, to_z, of_z, rules}
+use Rattle.std.proofs.Common.{◌≡◌, ℕ, ◌<◌, map, length, get_or, ℤ, pos, ◌*ℤ◌, sym, ap, ◌∙◌, arith, w32, w64, to_z, of_z, rules}
 use lib.IntN.{+ℤ_idr}
 use lib.ListN.{length-map}
 use Rattle.std.specs.List.{range_with_len}

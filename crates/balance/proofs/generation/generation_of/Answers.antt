@@ -1,5 +1,5 @@
-use Rattle.std.proofs.Common.{◌≡◌, ℕ, ◌+◌, ◌*◌, ◌≤◌, ℤ, ◌+ℤ◌, nat_abs, Option, refl, subst, zero-le, add-mul, arith}
-use borrow.Author.Differences.{ints, abs_is}
+use Rattle.std.proofs.Common.{ℕ, ◌*◌, ◌≤◌, ℤ, nat_abs, Option, refl, subst, zero-le, add-mul, arith}
+use borrow.Author.Differences.{ints}
 use Rattle.roll.specs.Entries.{sites_of}
 use Rattle.balance.specs.Quarter.{figure_of, site_fault}
 use Rattle.balance.specs.Figures.{figures_of}

@@ -1,4 +1,4 @@
-use Rattle.std.proofs.Common.{◌≡◌, cond, List, map, length, ℤ, is_ok, Option, sym, ap, ◌∙◌}
+use Rattle.std.proofs.Common.{cond, List, map, length, ℤ, is_ok, Option, sym, ap, ◌∙◌}
 use Rattle.std.specs.List.{range_with_len}
 use Rattle.std.proofs.lemmas.Bool.{cond-true}
 use Rattle.refusal.specs.declared.Refusal.{Refusal}

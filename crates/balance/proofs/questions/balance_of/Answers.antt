@@ -1,4 +1,4 @@
-use Rattle.std.proofs.Common.{◌≡◌, ℕ, ◌≤◌, true, ℤ, nat_abs, is_some, None, sym, ◌∙◌, subst, arith, w64, to_z, of_z}
+use Rattle.std.proofs.Common.{◌≡◌, ◌≤◌, true, ℤ, nat_abs, is_some, None, sym, ◌∙◌, subst, arith, w64, to_z, of_z}
 use borrow.Author.Differences.{ints, abs_is}
 use Rattle.balance.specs.Gathering.{gross_at, quarter_of}
 use Rattle.balance.specs.Quarter.{Quarter, figure_of, site_fault, somebody}

@@ -1,4 +1,4 @@
-use Rattle.std.proofs.Common.{◌≡◌, ℤ, Option, sym, ap, ◌∙◌, arith}
+use Rattle.std.proofs.Common.{ℤ, Option, sym, ap, ◌∙◌, arith}
 use Rattle.refusal.specs.declared.Refusal.{Refusal}
 use Rattle.balance.specs.Balance.{rtaml}
 use Rattle.balance.specs.Gathering.{quarter_in}

@@ -1,11 +1,10 @@
-use Rattle.std.proofs.Common.{◌≡◌, cond, List, map, length, ℤ, pos, nat_abs, ◌<ℤ◌, is_ok, Some, None, Option, sym, ap, ◌∙◌, subst}
+use Rattle.std.proofs.Common.{◌≡◌, cond, List, length, ℤ, pos, nat_abs, ◌<ℤ◌, is_ok, Some, None, Option, sym, ap, ◌∙◌, subst}
 use lib.Signed.{lt_z}
-use Rattle.std.specs.List.{range_with_len}
 use Rattle.std.proofs.lemmas.Bool.{cond-true}
 use Rattle.refusal.specs.declared.Refusal.{Refusal}
 use Rattle.refusal.specs.declared.Refusal.TheVariants.{NoTotal}
 use Rattle.split.specs.Parts.{sum_of, parts_of}
-use Rattle.balance.specs.Balance.{qse_load, rtamltot, shares, unshared}
+use Rattle.balance.specs.Balance.{rtamltot, shares, unshared}
 use Rattle.balance.specs.Gathering.{quarter_in}
 use Rattle.balance.specs.Quarter.{Quarter, sheet_of, refusal_of_quarter, refusal_of_shares}
 use Rattle.balance.specs.Questions.{ok_unless, late_at, misfit}

@@ -1,4 +1,4 @@
-use Rattle.std.proofs.Common.{◌≡◌, List, ℤ, Ok, Option, ap, ◌∙◌}
+use Rattle.std.proofs.Common.{List, ℤ, Ok, Option, ap, ◌∙◌}
 use Rattle.refusal.specs.declared.Refusal.{Refusal}
 use Rattle.day.specs.Holding.{day_setting, day_slate}
 use Rattle.day.specs.Questions.{shares_refusal, shares_at}

@@ -10,7 +10,7 @@ use Rattle.run.specs.declared.call.Entry.TheVariants.{Post}
 use Rattle.run.specs.declared.whole.Run.{Run}
 use Rattle.run.specs.Calls.{taken}
 use Rattle.run.specs.Courses.{Course, opened}
-use Rattle.run.specs.Holding.{setting_of_any, course_of_any}
+use Rattle.run.specs.Holding.{course_of_any}
 use Rattle.run.proofs.Courses.{SoFar, so_far_none, so_far_more}
 use Rattle.run.proofs.Runs.{run_answered, run_left}
 use Rattle.run.proofs.whole.run_day.Goals as goal

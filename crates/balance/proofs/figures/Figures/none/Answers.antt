@@ -1,4 +1,4 @@
-use Rattle.std.proofs.Common.{ℕ, ◌≤◌, ℤ, pos, nat_abs, None, Option, unwrap_or, sym, refl, ap, subst, zero-le}
+use Rattle.std.proofs.Common.{◌≤◌, ℤ, pos, nat_abs, None, Option, unwrap_or, sym, refl, subst, zero-le}
 use mathlib.Core.Path.{fun_ext}
 use Rattle.book.proofs.Tables.{filled_cell, filled_length}
 use Rattle.balance.proofs.figures.Figures.none.Goals as goal

@@ -1,4 +1,4 @@
-use Rattle.std.proofs.Common.{◌<◌, ◌≤◌, [], length, get_or, ℤ, pos, nat_abs, None, unwrap_or, ◌∙◌, arith, length-set}
+use Rattle.std.proofs.Common.{◌<◌, ◌≤◌, [], length, get_or, pos, nat_abs, None, unwrap_or, ◌∙◌, arith, length-set}
 use mathlib.Core.Path.{fun_ext}
 use Rattle.book.proofs.Tables.{put_row_length, put_at_cell, put_keeps}
 use Rattle.balance.proofs.figures.Figures.put.Goals as goal

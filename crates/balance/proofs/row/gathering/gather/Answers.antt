@@ -1,10 +1,7 @@
-use Rattle.std.proofs.Common.{◌≡◌, ℕ, ◌+◌, ◌<◌, length, get_or, set, None, sym, refl, ap, ◌∙◌, subst, ⊎_elim, arith, length-set, get_or-set_other, get_or-set_same}
-use Rattle.std.proofs.lemmas.Bool.{cases_eq}
+use Rattle.std.proofs.Common.{refl, ◌∙◌, arith, length-set}
 use Rattle.roll.specs.Entries.{rows_of}
-use Rattle.balance.specs.declared.row.LoadedRow.{LoadedRow}
 use Rattle.balance.specs.Quarter.{segment_fault}
-use Rattle.balance.specs.Gathering.{LoadedUpTo, gross_at}
-use Rattle.balance.specs.Totals.{first_of}
+use Rattle.balance.specs.Gathering.{gross_at}
 use Rattle.balance.proofs.Totals.{first_passed, first_found, first_none}
 use Rattle.balance.proofs.Gathering.{loaded_more}
 use Rattle.balance.proofs.row.gathering.gather.Goals as goal

@@ -1,4 +1,4 @@
-use Rattle.std.proofs.Common.{◌≡◌, ◌<◌, Bool, cond, [], length, get_or, set, ℤ, pos, ◌+ℤ◌, sym, ap, ◌∙◌, arith, length-set, w64, to_z, of_z}
+use Rattle.std.proofs.Common.{◌≡◌, ◌<◌, Bool, cond, [], length, get_or, pos, ◌+ℤ◌, sym, ap, ◌∙◌, arith, length-set, w64, to_z, of_z}
 use borrow.Author.Differences.{ints, abs_is}
 use Rattle.book.specs.Tables.{cell}
 use Rattle.book.proofs.Tables.{put_row_length}

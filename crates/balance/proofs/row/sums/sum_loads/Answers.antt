@@ -1,4 +1,4 @@
-use Rattle.std.proofs.Common.{length, take, sum_by, sym, ap, ◌∙◌, add-mul, arith, take_all, rules}
+use Rattle.std.proofs.Common.{sum_by, ap, ◌∙◌, add-mul, arith, take_all}
 use Rattle.balance.specs.Sheets.{row_load}
 use Rattle.balance.proofs.Sheets.{sum_by_read}
 use Rattle.balance.proofs.row.sums.sum_loads.Goals as goal

@@ -1,4 +1,4 @@
-use Rattle.std.proofs.Common.{◌≡◌, length, take, pos, nat_abs, sum_by, sym, ap, ◌∙◌, add-mul, arith, take_all, w64, to_z, of_z}
+use Rattle.std.proofs.Common.{◌≡◌, pos, nat_abs, sum_by, ap, ◌∙◌, add-mul, arith, take_all, w64, to_z, of_z}
 use borrow.Author.Differences.{ints}
 use Rattle.balance.specs.Sheets.{weight_of_row}
 use Rattle.balance.proofs.Sheets.{sum_by_read, weight_in_most}

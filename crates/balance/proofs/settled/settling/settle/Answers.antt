@@ -1,11 +1,10 @@
-use Rattle.std.proofs.Common.{◌≡◌, ℕ, ◌≤◌, List, map, length, ℤ, pos, ◌-ℤ◌, nat_abs, Some, None, sum_by, Option, sym, ap, ◌∙◌, subst, arith, w64, to_z, of_z}
+use Rattle.std.proofs.Common.{◌≡◌, ℕ, List, map, length, ℤ, pos, ◌-ℤ◌, Some, None, sum_by, Option, sym, ap, ◌∙◌, subst, arith, w64, to_z, of_z}
 use borrow.Author.Differences.{ints, abs_is}
 use Rattle.std.proofs.lemmas.Int.{to_z-of_z}
 use Rattle.refusal.specs.declared.Refusal.{Refusal}
 use Rattle.split.specs.Parts.{parts_of}
 use Rattle.balance.specs.declared.row.LoadedRow.{LoadedRow}
-use Rattle.balance.specs.declared.settled.Balance.{Balance}
-use Rattle.balance.specs.Balance.{metered, ufe, weighted, weights, uncarried, stranded}
+use Rattle.balance.specs.Balance.{ufe, weighted, weights, uncarried, stranded}
 use Rattle.balance.specs.Settling.{Holds, sheet_in}
 use Rattle.balance.specs.Sheets.{row_load, weight_of_row, row_weight_z}
 use Rattle.balance.proofs.Settling.{metered_is, weighted_is, weights_are}

@@ -1,4 +1,4 @@
-use Rattle.std.proofs.Common.{◌≡◌, ℕ, ◌+◌, ◌*◌, ◌≤◌, get_or, ℤ, pos, nat_abs, refl, subst, zero-le, add-mul, arith}
+use Rattle.std.proofs.Common.{◌*◌, ◌≤◌, get_or, ℤ, pos, nat_abs, refl, subst, zero-le, add-mul, arith}
 use borrow.Author.Differences.{ints, abs_is}
 use Rattle.balance.specs.Totals.{total}
 use Rattle.balance.proofs.Totals.{total_more}

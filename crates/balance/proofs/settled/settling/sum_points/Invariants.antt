@@ -1,4 +1,4 @@
-use Rattle.std.proofs.Common.{◌≡◌, ℕ, ◌*◌, ◌≤◌, get_or, pos, nat_abs}
+use Rattle.std.proofs.Common.{◌≡◌, ◌*◌, ◌≤◌, get_or, pos, nat_abs}
 use Rattle.balance.specs.Totals.{total}
 use Rattle.balance.proofs.settled.settling.sum_points.Given as goal
 

@@ -2,7 +2,6 @@ use Rattle.std.proofs.Common.{◌≡◌, ℕ, cond, List, is_ok, Err, Result, sy
 use Rattle.std.proofs.lemmas.Result.{err_from_is_err_and}
 use Rattle.refusal.specs.declared.Refusal.{Refusal}
 use Rattle.book.specs.Cells.{Standing}
-use Rattle.book.specs.Grossing.{Grossing}
 use Rattle.posting.specs.Readings.{readings_of as readings_in}
 use Rattle.posting.specs.Rows.{put_row}
 use Rattle.day.specs.Entries.{segment_off_roll}
