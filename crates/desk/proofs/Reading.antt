@@ -1,9 +1,8 @@
 -- A field is read as a whole number exactly when its bytes are digits only, and then as the number that
 -- they make, or as the largest that is kept. Assumes nothing.
-use Rattle.std.proofs.Common.{◌≡◌, ℕ, ◌+◌, ◌-◌, ◌*◌, ◌^◌, min, Bool, true, false, cond, not, ◌&&◌, ◌||◌, eqb, ltb, leb, List, [], ◌∷◌, Some, None, fold, Option, sym, refl, ap, arith, eqb-true, leb-true}
+use Rattle.std.proofs.Common.{◌≡◌, ℕ, ◌+◌, ◌-◌, ◌*◌, ◌^◌, min, Bool, true, false, cond, not, ◌&&◌, ◌||◌, eqb, ltb, leb, List, [], ◌∷◌, Some, None, fold, sym, refl, ap, arith, eqb-true, leb-true}
 use borrow.Author.Tests.{clash}
-use Rattle.desk.specs.declared.field.Field.{Field}
-use Rattle.desk.specs.Fields.{is_digit_byte, appended, character_count, empty_field, with_byte, whole_of, field_of, all_digits, number_from, whole_text}
+use Rattle.desk.specs.Fields.{is_digit_byte, appended, character_count, with_byte, whole_of, field_of, all_digits, number_from, whole_text}
 
 -- what is once no whole number stays none
 other_stays : (bs : List ℕ) (v first n : ℕ) (m d : Bool) → whole_of (fold with_byte (record { value = v; minus = m; digit = d; other = true; first = first; characters = n }) bs) ≡ None

@@ -1,5 +1,5 @@
 -- What a line on a draft is answered. Assumes nothing.
-use Rattle.std.specs.Prelude.{◌≡◌, ℕ, ◌+◌, Bool, true, false, cond, replicate, Some, None, Ok, Err, Option, Result, nat_lt}
+use Rattle.std.specs.Prelude.{◌≡◌, ℕ, ◌+◌, cond, replicate, Some, None, Ok, Err, Option, Result, nat_lt}
 use Rattle.refusal.specs.declared.Refusal.{Refusal}
 use Rattle.roll.specs.Drafts.{Contents, contents_of, begun, roll_of}
 use Rattle.roll.specs.Entries.{rows_of, sites_of, segment_entry, site_entry}
