@@ -1,5 +1,5 @@
 // The books that the days are on: a grid under both loss adjustments, and a slip book.
-use crate::day;
+use crate::told_day;
 use book::LoadBook;
 use grid::Grid;
 use losses::{Distribution, Transmission};
@@ -34,12 +34,12 @@ fn live_under_losses<B: LoadBook + Drop>(
     quarter_hours: u8,
     book: B,
 ) -> io::Result<()> {
-    match day::draft(quarter_hours) {
+    match told_day::draft(quarter_hours) {
         Ok(draft) => match under_losses(book, &draft, quarter_hours.saturating_sub(1)) {
-            Ok(pile) => day::live(rt, draft, pile),
-            Err(refusal) => day::sent_back(rt, &refusal),
+            Ok(pile) => told_day::live(rt, draft, pile),
+            Err(refusal) => told_day::sent_back(rt, &refusal),
         },
-        Err(refusal) => day::sent_back(rt, &refusal),
+        Err(refusal) => told_day::sent_back(rt, &refusal),
     }
 }
 
@@ -57,9 +57,9 @@ fn on_few_slips(rt: &HostRuntime, quarter_hours: u8) -> io::Result<()> {
     println!(rt; "")?;
     println!(rt; "A lively day of {quarter_hours} quarter hours, on a slip book of 3 places")?;
     let mut slips = [BLANK; 3];
-    match day::draft(quarter_hours) {
-        Ok(draft) => day::live(rt, draft, SlipBook::new(&mut slips)),
-        Err(refusal) => day::sent_back(rt, &refusal),
+    match told_day::draft(quarter_hours) {
+        Ok(draft) => told_day::live(rt, draft, SlipBook::new(&mut slips)),
+        Err(refusal) => told_day::sent_back(rt, &refusal),
     }
 }
 

@@ -1,7 +1,7 @@
 // A day of four segments on transmission over distribution over a grid, with a reading that is mistyped
 // and one that is misread.
 use crate::books::under_losses;
-use crate::day;
+use crate::told_day;
 use book::LoadBook;
 use grid::Grid;
 use roll::Row;
@@ -52,20 +52,20 @@ fn calls<'a>() -> [Call<'a>; 13] {
 }
 
 fn settle<B: LoadBook + Drop>(rt: &HostRuntime, book: B) -> io::Result<()> {
-    let mut draft = match day::draft(96) {
+    let mut draft = match told_day::draft(96) {
         Ok(draft) => draft,
-        Err(refusal) => return day::sent_back(rt, &refusal),
+        Err(refusal) => return told_day::sent_back(rt, &refusal),
     };
     if let Err(refusal) = draft.segment(3, &TOWN) {
-        return day::sent_back(rt, &refusal);
+        return told_day::sent_back(rt, &refusal);
     }
     match under_losses(book, &draft, 0) {
         Ok(pile) => {
             let calls = calls();
             let mut answers = [Answer::Unlawful; 13];
-            day::tell_run(rt, draft, pile, &calls, &mut answers)
+            told_day::tell_run(rt, draft, pile, &calls, &mut answers)
         }
-        Err(refusal) => day::sent_back(rt, &refusal),
+        Err(refusal) => told_day::sent_back(rt, &refusal),
     }
 }
 

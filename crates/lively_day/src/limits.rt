@@ -1,6 +1,6 @@
 // The last number that is taken and the first that is sent back, and a book with one place.
 use crate::books::{BLANK, under_losses};
-use crate::day;
+use crate::told_day;
 use book::LoadBook;
 use grid::Grid;
 use losses::TransmissionTable;
@@ -32,7 +32,7 @@ fn five_calls<B: LoadBook + Drop>(
     calls: &[Call; 5],
 ) -> io::Result<()> {
     let mut answers = [Answer::Unlawful; 5];
-    day::tell_run(rt, draft, book, calls, &mut answers)
+    told_day::tell_run(rt, draft, book, calls, &mut answers)
 }
 
 fn largest_readings<'a>() -> [Call<'a>; 5] {
@@ -46,12 +46,12 @@ fn largest_readings<'a>() -> [Call<'a>; 5] {
 }
 
 fn readings_on<B: LoadBook + Drop>(rt: &HostRuntime, book: B) -> io::Result<()> {
-    match day::draft(96) {
+    match told_day::draft(96) {
         Ok(draft) => match under_losses(book, &draft, 0) {
             Ok(pile) => five_calls(rt, draft, pile, &largest_readings()),
-            Err(refusal) => day::sent_back(rt, &refusal),
+            Err(refusal) => told_day::sent_back(rt, &refusal),
         },
-        Err(refusal) => day::sent_back(rt, &refusal),
+        Err(refusal) => told_day::sent_back(rt, &refusal),
     }
 }
 
@@ -95,8 +95,8 @@ fn one_place(rt: &HostRuntime) -> io::Result<()> {
         }),
         post(1, 2_000),
     ];
-    match day::draft(96) {
+    match told_day::draft(96) {
         Ok(draft) => five_calls(rt, draft, SlipBook::new(&mut slips), &calls),
-        Err(refusal) => day::sent_back(rt, &refusal),
+        Err(refusal) => told_day::sent_back(rt, &refusal),
     }
 }

@@ -4,9 +4,9 @@
 
 mod books;
 mod calls;
-mod day;
 mod four;
 mod limits;
+mod told_day;
 
 use std::io;
 
