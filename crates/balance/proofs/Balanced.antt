@@ -1,7 +1,7 @@
 -- The laws of a balance. Assumes nothing.
 use Rattle.std.proofs.Common.{◌≡◌, ℕ, ◌<◌, ◌≤◌, Bool, true, false, cond, ◌&&◌, eqb, leb, List, map, length, get_or, ℤ, pos, ◌+ℤ◌, ◌-ℤ◌, ◌*ℤ◌, nat_abs, ◌≤ℤ◌, ◌<ℤ◌, is_some, Some, None, Option, sym, refl, ap, ◌∙◌, subst, arith}
 use borrow.Author.Differences.{ints, abs_is}
-use Rattle.std.specs.List.{range_with_len, AllByRecursion as All}
+use Rattle.std.specs.List.{range_with_len, AllByRecursion}
 use Rattle.std.proofs.lemmas.List.FromFn.{length-map-range_with_len, get_or-map-range_with_len}
 use Rattle.std.proofs.ByRecursion.{All-from_get_or, All-get_or}
 use Rattle.std.proofs.lemmas.Bool.{and_parts, leb-true, eqb-true, true≢false}
@@ -156,7 +156,7 @@ module _ (y : Sheet) (carried : weighted y ≡ 0 → ufe y ≡ pos 0) where
     pub ufe_most : nat_abs (ufe y) ≤ 416000000
     ufe_most = omega (arith, ints, metered_most, abs_is (ufe y), abs_is y.generation)
 
-    not_negative : All (λ w. pos 0 ≤ℤ w) (weights y)
+    not_negative : AllByRecursion (λ w. pos 0 ≤ℤ w) (weights y)
     not_negative = All-from_get_or (λ w. pos 0 ≤ℤ w) (weights y) (pos 0) (λ s h. subst (λ (w : ℤ). pos 0 ≤ℤ w) (sym (weight_at s (omega (arith, many)))) (omega (arith, ints)))
 
     pub parts_long : length (parts_of (ufe y) (weighted y) 0 (weights y)) ≡ 64

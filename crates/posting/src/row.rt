@@ -1,6 +1,6 @@
 // A row of readings for one segment, posted to a load book whole or not at all.
 ghost use Rattle.std.specs.Prelude.{◌≡◌, ◌+◌, ◌≤◌, length, is_some, is_ok, if◌then◌else◌};
-ghost use Rattle.std.specs.List.{AllByRecursion as All};
+ghost use Rattle.std.specs.List.{AllByRecursion};
 ghost use Rattle.book.specs.Cells.{count};
 ghost use Rattle.posting.specs.Rows.{lacking, put_row, row_answer};
 
@@ -38,7 +38,7 @@ fn count_lacking<B: LoadBook>(book: &B, segment: u8, quarter_hours: u8) -> u32
 fn post_each<B: LoadBook>(book: &mut B, segment: u8, readings: &[u32])
     requires segment { segment ≤ 63 }
     requires quarter_hours { length readings.now ≤ 100 }
-    requires readable { All (λ r. r ≤ 1000000) readings.now }
+    requires readable { AllByRecursion (λ r. r ≤ 1000000) readings.now }
     requires places { count (B.LoadBook.standing book.old) + lacking (B.LoadBook.standing book.old) segment (length readings.now) ≤ B.LoadBook.places book.old }
     ensures after { B.LoadBook.standing book.new ≡ put_row (B.LoadBook.standing book.old) segment readings.now }
     ensures places_kept { B.LoadBook.places book.new ≡ B.LoadBook.places book.old }
@@ -58,7 +58,7 @@ pub(crate) fn post_row<B: LoadBook>(
 ) -> Result<u32, Refusal>
     requires segment { segment ≤ 63 }
     requires quarter_hours { length readings.now ≤ 100 }
-    requires readable { All (λ r. r ≤ 1000000) readings.now }
+    requires readable { AllByRecursion (λ r. r ≤ 1000000) readings.now }
     ensures answer { result ≡ row_answer (B.LoadBook.standing book.old) (B.LoadBook.places book.old) segment readings.now }
     ensures after { B.LoadBook.standing book.new ≡ (if is_ok result then put_row (B.LoadBook.standing book.old) segment readings.now else B.LoadBook.standing book.old) }
     ensures places_kept { B.LoadBook.places book.new ≡ B.LoadBook.places book.old }

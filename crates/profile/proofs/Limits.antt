@@ -2,7 +2,7 @@
 use Rattle.std.proofs.Common.{◌≡◌, ℕ, ◌+◌, ◌<◌, ◌≤◌, Bool, true, false, ◌&&◌, leb, List, [], ◌∷◌, map, length, get_or, drop, ℤ, pos, nat_abs, ◌≤ℤ◌, ap, ◌∙◌, arith}
 use lib.ListN.{length-map}
 use borrow.Author.Differences.{ints, abs_is}
-use Rattle.std.specs.List.{AllByRecursion as All}
+use Rattle.std.specs.List.{AllByRecursion}
 use Rattle.std.proofs.ByRecursion.{All-get_or}
 use Rattle.std.proofs.lemmas.List.{at_drop_more, at_drop_all, get_or-map}
 use Rattle.std.proofs.lemmas.Bool.{and_parts, le-leb, lt-leb, leb-true}
@@ -22,14 +22,14 @@ module _ (limit : ℕ) (xs : List ℕ) (i : ℕ) where
   pub up_to_end : length xs ≤ i → up_to limit (drop i xs) ≡ true
   up_to_end h = at_drop_all (up_to limit) xs i h
 
-pub all_up_to : (limit : ℕ) (xs : List ℕ) → up_to limit xs ≡ true → All (λ x. x ≤ limit) xs
+pub all_up_to : (limit : ℕ) (xs : List ℕ) → up_to limit xs ≡ true → AllByRecursion (λ x. x ≤ limit) xs
 all_up_to limit [] e = tt
 all_up_to limit (x ∷ xs) e =
     let b = and_parts (leb x limit) (up_to limit xs) e in
     (leb-true x limit b.0, all_up_to limit xs b.1)
 
 -- a part that is not negative, and the same part as a plain number
-module _ (ps : List ℤ) (i : ℕ) (within : i < length ps) (low : All (λ p. pos 0 ≤ℤ p) ps) where
+module _ (ps : List ℤ) (i : ℕ) (within : i < length ps) (low : AllByRecursion (λ p. pos 0 ≤ℤ p) ps) where
   pub plain_within : i < length (map nat_abs ps)
   plain_within = simp length-map within
 

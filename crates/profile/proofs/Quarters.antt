@@ -5,7 +5,7 @@ use mathlib.Core.List.{map-map}
 use native.Mathlib.Nat.{div-zero}
 use lib.ListN.{length-map}
 use borrow.Author.Differences.{ints}
-use Rattle.std.specs.List.{range_with_len, AllByRecursion as All}
+use Rattle.std.specs.List.{range_with_len, AllByRecursion}
 use Rattle.std.proofs.lemmas.Nat.{le-div, div-add-mod'}
 use Rattle.std.proofs.lemmas.List.{take-take, take-map, map-id}
 use Rattle.std.proofs.lemmas.List.Sums.{sum_by-cons, sum_by-take-le}
@@ -37,7 +37,7 @@ sum_of_pos [] = refl
 sum_of_pos (x ∷ xs) = ap (λ (z : ℤ). pos x +ℤ z) (sum_of_pos xs) ∙ ap pos (sym (sum_by-cons (λ y. y) x xs))
 
 -- numbers as integers, and back
-pub none_negative : (qs : List ℕ) → All (λ p. pos 0 ≤ℤ p) (map pos qs)
+pub none_negative : (qs : List ℕ) → AllByRecursion (λ p. pos 0 ≤ℤ p) (map pos qs)
 none_negative [] = tt
 none_negative (q ∷ qs) = (omega (arith, ints), none_negative qs)
 

@@ -3,7 +3,7 @@
 #![tactic(auto)]
 
 ghost use Rattle.std.specs.Prelude.{◌≡◌, ℕ, ◌+◌, ◌-◌, ◌*◌, ◌/◌, ◌<◌, ◌≤◌, true, List, map, length, pos, ◌≤ℤ◌, is_ok, if◌then◌else◌, Some, None, sum, unsigned_abs};
-ghost use Rattle.std.specs.List.{AllByRecursion as All};
+ghost use Rattle.std.specs.List.{AllByRecursion};
 ghost use Rattle.profile.specs.Answer.{up_to, in_range, spread_answer};
 ghost use Rattle.profile.specs.Quarters.{day_of};
 ghost use Rattle.profile.specs.Spans.{sum_all, days_of};
@@ -79,7 +79,7 @@ fn divide_over_day(reading: &ProfiledReading, weights: &[u32], parts: &mut [i64]
 
 /// Whether every part may stand as a reading.
 fn postable(parts: &[i64]) -> bool
-    requires { All (λ p. pos 0 ≤ℤ p) parts.now }
+    requires { AllByRecursion (λ p. pos 0 ≤ℤ p) parts.now }
     ensures { result ≡ up_to 1000000 (map unsigned_abs parts.now) }
 {
     for part in parts {
@@ -93,7 +93,7 @@ fn postable(parts: &[i64]) -> bool
 /// The parts as readings, each in its own place.
 fn copy_parts(parts: &[i64], readings: &mut [u32])
     requires lengths { length readings.old ≡ length parts.now }
-    requires low { All (λ p. pos 0 ≤ℤ p) parts.now }
+    requires low { AllByRecursion (λ p. pos 0 ≤ℤ p) parts.now }
     requires high { up_to 1000000 (map unsigned_abs parts.now) ≡ true }
     ensures { readings.new ≡ map unsigned_abs parts.now }
 {
@@ -117,7 +117,7 @@ pub fn spread(
     ensures after { readings.new ≡ (if is_ok result then day_of reading.now.energy reading.now.profile_total reading.now.profile_before weights.now else readings.old) }
     ensures day_total { is_ok result ≡ true → sum readings.new ≡ reading.now.energy * (reading.now.profile_before + sum weights.now) / reading.now.profile_total - reading.now.energy * reading.now.profile_before / reading.now.profile_total }
     ensures span { is_ok result ≡ true → (earlier later : List (List ℕ)) → sum_all earlier ≡ reading.now.profile_before → reading.now.profile_before + sum weights.now + sum_all later ≡ reading.now.profile_total → days_of reading.now.energy reading.now.profile_total 0 earlier + sum readings.new + days_of reading.now.energy reading.now.profile_total (reading.now.profile_before + sum weights.now) later ≡ reading.now.energy }
-    ensures postable { is_ok result ≡ true → All (λ q. q ≤ 1000000) readings.new }
+    ensures postable { is_ok result ≡ true → AllByRecursion (λ q. q ≤ 1000000) readings.new }
 {
     let quarter_hours = usize::from(day.quarter_hours());
     if weights.len() != quarter_hours || readings.len() != quarter_hours {

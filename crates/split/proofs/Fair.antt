@@ -3,7 +3,7 @@ use Rattle.std.proofs.Common.{◌≡◌, ℕ, zero, suc, ◌+◌, ◌*◌, ◌<�
 use native.Mathlib.Nat.{zero-div}
 use lib.IntN.{zero-*ℤ, *ℤ-zero, +ℤ_idl, +ℤ_idr}
 use borrow.Author.Differences.{ints, up, down, neg_is, abs_is}
-use Rattle.std.specs.List.{range_with_len, AllByRecursion as All}
+use Rattle.std.specs.List.{range_with_len, AllByRecursion}
 use Rattle.std.proofs.lemmas.Nat.{mul-le}
 use Rattle.std.proofs.lemmas.List.FromFn.{length-map-range_with_len, get_or-map-range_with_len, map-range_with_len_more}
 use Rattle.std.proofs.ByRecursion.{All-get_or, All-from_get_or}
@@ -125,7 +125,7 @@ each : (P : ℤ → Type 0) (amount : ℤ) (whole before : ℕ) (ws : List ℤ) 
 each P amount zero before ws k z none some = subst P (sym (none_of_none amount zero before ws (z refl) k)) none
 each P amount (suc w) before ws k z none some = some (omega arith)
 
-all_parts : (P : ℤ → Type 0) (amount : ℤ) (whole before : ℕ) (ws : List ℤ) → ((k : ℕ) → k < length ws → P (part_at amount whole before ws k)) → All P (parts_of amount whole before ws)
+all_parts : (P : ℤ → Type 0) (amount : ℤ) (whole before : ℕ) (ws : List ℤ) → ((k : ℕ) → k < length ws → P (part_at amount whole before ws k)) → AllByRecursion P (parts_of amount whole before ws)
 all_parts P amount whole before ws f =
     All-from_get_or P (parts_of amount whole before ws) (pos 0)
     (λ k h. let within : k < length ws = omega (arith, length_parts amount whole before ws) in subst P (sym (part_of amount whole before ws k within)) (f k within))

@@ -1,6 +1,6 @@
 -- What a reader of the parts relies on. Assumes nothing.
 use Rattle.std.specs.Prelude.{◌≡◌, ℕ, ◌<◌, List, length, ℤ, pos, ◌+ℤ◌, ◌-ℤ◌, ◌*ℤ◌, ◌≤ℤ◌, slice_index_or, unsigned_abs}
-use Rattle.std.specs.List.{AllByRecursion as All}
+use Rattle.std.specs.List.{AllByRecursion}
 use Rattle.split.specs.Floor.{floor}
 use Rattle.split.specs.Parts.{sum_of}
 
@@ -17,5 +17,5 @@ pub record Fair (amount : ℤ) (whole before : ℕ) (weights parts : List ℤ) :
   -- what has no weight gets nothing
   pub none_for_none : (k : ℕ) → k < length weights → slice_index_or weights k (pos 0) ≡ pos 0 → slice_index_or parts k (pos 0) ≡ pos 0
   -- where no weight is negative, no part goes against the amount
-  pub never_more : All (λ w. pos 0 ≤ℤ w) weights → pos 0 ≤ℤ amount → All (λ p. pos 0 ≤ℤ p) parts
-  pub never_less : All (λ w. pos 0 ≤ℤ w) weights → amount ≤ℤ pos 0 → All (λ p. p ≤ℤ pos 0) parts
+  pub never_more : AllByRecursion (λ w. pos 0 ≤ℤ w) weights → pos 0 ≤ℤ amount → AllByRecursion (λ p. pos 0 ≤ℤ p) parts
+  pub never_less : AllByRecursion (λ w. pos 0 ≤ℤ w) weights → amount ≤ℤ pos 0 → AllByRecursion (λ p. p ≤ℤ pos 0) parts

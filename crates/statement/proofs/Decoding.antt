@@ -1,7 +1,7 @@
 -- A text is read back in one way only. Assumes nothing.
 use Rattle.std.proofs.Common.{◌≡◌, ℕ, zero, suc, ◌+◌, ◌-◌, ◌<◌, ◌≤◌, eqb, List, [], ◌∷◌, ◌++◌, map, length, ℤ, pos, negsuc, sym, refl, ap, ◌∙◌, subst, ⊎_elim, append_assoc, arith}
 use Rattle.std.specs.Int.Digits.{digits_of, number_from_digits}
-use Rattle.std.specs.List.{AllByRecursion as All}
+use Rattle.std.specs.List.{AllByRecursion}
 use Rattle.std.proofs.lemmas.Int.Digits.{number_digits_of}
 use Rattle.std.proofs.ByRecursion.{All-weaker}
 use Rattle.std.proofs.lemmas.Bool.{cases_eq, cond_both}
@@ -31,16 +31,16 @@ unsigned_same : (m n : ℕ) → unsigned m ≡ unsigned n → m ≡ n
 unsigned_same m n e = sym (decoded_unsigned m) ∙ ap decoded e ∙ decoded_unsigned n
 
 -- digits stand above every mark
-all_unsigned : (n : ℕ) → All (λ b. 47 < b) (unsigned n)
+all_unsigned : (n : ℕ) → AllByRecursion (λ b. 47 < b) (unsigned n)
 unfolding unsigned
-all_unsigned n = cond_both (eqb n 0) (48 ∷ []) (places n) (All (λ b. 47 < b)) (λ _. (omega arith, tt)) (λ _. subst (All (λ b. 47 < b)) (sym (places_are n)) (shifted (digits_of 10 n)))
+all_unsigned n = cond_both (eqb n 0) (48 ∷ []) (places n) (AllByRecursion (λ b. 47 < b)) (λ _. (omega arith, tt)) (λ _. subst (AllByRecursion (λ b. 47 < b)) (sym (places_are n)) (shifted (digits_of 10 n)))
   where
-    shifted : (ds : List ℕ) → All (λ b. 47 < b) (map (λ d. 48 + d) ds)
+    shifted : (ds : List ℕ) → AllByRecursion (λ b. 47 < b) (map (λ d. 48 + d) ds)
     shifted [] = tt
     shifted (d ∷ ds) = (omega arith, shifted ds)
 
 never_minus : (n : ℕ) (bs : List ℕ) → unsigned n ≡ 45 ∷ bs → ⊥
-never_minus n bs e = let above : 47 < 45 = (subst (All (λ b. 47 < b)) e (all_unsigned n)).0 in omega arith
+never_minus n bs e = let above : 47 < 45 = (subst (AllByRecursion (λ b. 47 < b)) e (all_unsigned n)).0 in omega arith
 
 numeral_same : (y z : ℤ) → numeral y ≡ numeral z → y ≡ z
 unfolding numeral
@@ -52,7 +52,7 @@ numeral_same (negsuc m) (negsuc n) e =
     ap negsuc (omega (arith, unsigned_same (suc m) (suc n) digits))
 
 -- no byte of a number is a space or a line's end
-all_numeral : (z : ℤ) → All (λ b. 32 < b) (numeral z)
+all_numeral : (z : ℤ) → AllByRecursion (λ b. 32 < b) (numeral z)
 unfolding numeral
 all_numeral (pos n) = All-weaker (λ b. 47 < b) (λ b. 32 < b) (λ b h. omega arith) (unsigned n) (all_unsigned n)
 all_numeral (negsuc n) = (omega arith, All-weaker (λ b. 47 < b) (λ b. 32 < b) (λ b h. omega arith) (unsigned (suc n)) (all_unsigned (suc n)))
@@ -65,7 +65,7 @@ Marked [] = ⊥
 Marked (b ∷ bs) = b ≤ 32
 
 -- a field ends where the next mark stands
-field_ends : (xs ys t u : List ℕ) → All (λ b. 32 < b) xs → All (λ b. 32 < b) ys → Marked t → Marked u → xs ++ t ≡ ys ++ u → (xs ≡ ys) × (t ≡ u)
+field_ends : (xs ys t u : List ℕ) → AllByRecursion (λ b. 32 < b) xs → AllByRecursion (λ b. 32 < b) ys → Marked t → Marked u → xs ++ t ≡ ys ++ u → (xs ≡ ys) × (t ≡ u)
 field_ends [] [] t u hx hy ht hu e = (refl, e)
 field_ends [] (y ∷ ys) t u hx hy ht hu e = let low : y ≤ 32 = subst Marked e ht in absurd (omega (arith, hy.0))
 field_ends (x ∷ xs) [] t u hx hy ht hu e = let low : x ≤ 32 = subst Marked (sym e) hu in absurd (omega (arith, hx.0))

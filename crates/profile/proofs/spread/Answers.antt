@@ -1,5 +1,5 @@
 use Rattle.std.proofs.Common.{◌≡◌, ◌≤◌, true, false, map, length, pos, nat_abs, ◌≤ℤ◌, sum, sym, ap, ◌∙◌, subst, arith, rules}
-use Rattle.std.specs.List.{AllByRecursion as All}
+use Rattle.std.specs.List.{AllByRecursion}
 use Rattle.profile.specs.Answer.{up_to}
 use Rattle.profile.specs.Quarters.{day_of}
 use Rattle.profile.proofs.Answer.{weighed, limits_kept, weight_limit, answered}
@@ -17,7 +17,7 @@ overflow_add-reading c =
     omega (arith, w.1, weight_limit ws short w.0, (limits_kept r.energy r.profile_total r.profile_before (sym c.if-not-in_range.ensures)).1)
 
 pub postable-requires : goal.postable-requires
-postable-requires c = subst (All (λ p. pos 0 ≤ℤ p)) (sym c.divide_over_day.ensures) (none_negative _)
+postable-requires c = subst (AllByRecursion (λ p. pos 0 ≤ℤ p)) (sym c.divide_over_day.ensures) (none_negative _)
 
 pub returns-then-not-postable : goal.returns-then-not-postable
 returns-then-not-postable c =
@@ -36,7 +36,7 @@ pub copy_parts-requires : goal.copy_parts-requires
 copy_parts-requires c =
     record {
       lengths = search rules;
-      low = subst (All (λ p. pos 0 ≤ℤ p)) (sym c.divide_over_day.ensures) (none_negative _);
+      low = subst (AllByRecursion (λ p. pos 0 ≤ℤ p)) (sym c.divide_over_day.ensures) (none_negative _);
       high = sym c.if-not-postable.ensures;
     }
 
@@ -57,5 +57,5 @@ returns c =
       day_total = λ _. ap sum filled ∙ day_sum r.energy r.profile_total r.profile_before ws;
       span = λ _ earlier later before whole.
           omega (arith, ap sum filled, span_sum r.energy r.profile_total r.profile_before ws some earlier later before whole);
-      postable = λ _. subst (All (λ q. q ≤ 1000000)) (sym filled) (all_up_to 1000000 day under);
+      postable = λ _. subst (AllByRecursion (λ q. q ≤ 1000000)) (sym filled) (all_up_to 1000000 day under);
     }
