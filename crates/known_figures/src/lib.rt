@@ -8,6 +8,8 @@ mod balances;
 #[cfg(test)]
 mod books;
 #[cfg(test)]
+mod call_tables;
+#[cfg(test)]
 mod factors;
 #[cfg(test)]
 mod grids;
