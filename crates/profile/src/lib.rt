@@ -97,8 +97,8 @@ fn copy_parts(parts: &[i64], readings: &mut [u32])
     requires high { up_to 1000000 (map unsigned_abs parts.now) ≡ true }
     ensures { readings.new ≡ map unsigned_abs parts.now }
 {
-    for i in 0..parts.len() {
-        readings[i] = parts[i] as u32;
+    for (i, part) in parts.iter().enumerate() {
+        readings[i] = *part as u32;
     }
 }
 

@@ -73,8 +73,8 @@ fn fill_parts<T: Weighted>(amount: i32, before: u32, whole: u32, items: &[T], pa
     ensures { parts.new ≡ parts_of amount whole before (map T.Weighted.weight items.now) }
 {
     let (_, mut carried) = divide(owed(amount, i64::from(before), 0), whole);
-    for i in 0..items.len() {
-        let (part, left) = divide(owed(amount, items[i].weight(), carried), whole);
+    for (i, item) in items.iter().enumerate() {
+        let (part, left) = divide(owed(amount, item.weight(), carried), whole);
         parts[i] = part;
         carried = left;
     }
