@@ -39,8 +39,7 @@ impl Weighted for i32 {
     }
 }
 
-/// The floor of `a / by`, and what `a` is above `by` times it: one machine division, which
-/// rounds towards zero, put right below zero.
+/// The floor of `a / by`, and what `a` is above `by` times it.
 fn divide(a: i64, by: u32) -> (i64, u32)
     requires { 0 < by }
     ensures quotient { result.0 ≡ floor a by }
@@ -49,13 +48,7 @@ fn divide(a: i64, by: u32) -> (i64, u32)
     ensures below { result.1 < by }
 {
     let whole = i64::from(by);
-    let towards_zero = a / whole;
-    let left = a % whole;
-    if left < 0 {
-        (towards_zero - 1, (left + whole) as u32)
-    } else {
-        (towards_zero, left as u32)
-    }
+    (a.div_euclid(whole), a.rem_euclid(whole) as u32)
 }
 
 /// What falls due at one element: its exact part times the whole, and the remainder so far.
