@@ -17,13 +17,6 @@ overflow_cast-readings c =
     let small : get_or (map nat_abs ps) i 0 ≤ 1000000 = All-get_or (λ x. x ≤ 1000000) (map nat_abs ps) i 0 (plain_within ps i within c.requires.low) (all_up_to 1000000 (map nat_abs ps) c.requires.high) in
     omega (arith, ints, plain)
 
-pub loop-i-preserved : goal.loop-i-preserved
-loop-i-preserved c =
-    let ps = c.args.parts.now in
-    let i = c.loop-i.i in
-    let fits : SFits w64 (get_or ps i (pos 0)) = search rules in
-    simp to_z-of_z (fill_by_more (λ k. nat_abs (get_or ps k (pos 0))) c.loop-i.readings i 0 (omega arith) c.loop-i.invariant)
-
 pub returns : goal.returns
 returns c =
     let ps = c.args.parts.now in

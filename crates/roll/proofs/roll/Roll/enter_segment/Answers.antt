@@ -6,10 +6,6 @@ use Rattle.roll.proofs.Places.{each_after_set}
 use Rattle.roll.proofs.Records.{read_in_range, out_of_range}
 use Rattle.roll.proofs.roll.Roll.enter_segment.Goals as goal
 
-pub returns-in_err-try_from-clause-answer : goal.returns-in_err-try_from-clause-answer
-returns-in_err-try_from-clause-answer c =
-    search (rules, out_of_range c.in_err-try_from.field-0.0 c.args.row.now c.in_err-try_from.ensures)
-
 pub invariant_of-self : goal.invariant_of-self
 invariant_of-self c =
     let roll = c.args.self.now in record {
