@@ -6,16 +6,20 @@ use Rattle.roll.specs.Marks.{code_of}
 use Rattle.roll.specs.declared.row.LossCode.{LossCode}
 use Rattle.roll.specs.declared.row.LossCode.TheVariants as code
 use Rattle.roll.specs.declared.row.Row.{Row}
-use Rattle.book.specs.Grossing.{Grossing}
+use Rattle.book.specs.Grossing.{Gross, Grossing}
 use Rattle.book.specs.Tables.{put_at}
 use Rattle.losses.specs.declared.adjust.Loss.{Loss}
 use Rattle.losses.specs.declared.adjust.Loss.TheVariants.{Unchanged, Missing}
 use Rattle.losses.specs.Adjusting.{adjusted, given}
 use Rattle.losses.specs.Factors.{Factors}
+use Rattle.losses.specs.Layered.{layered}
 
 -- ---- transmission: one row of factors, for every segment
+abbrev pub transmitted_cell : Factors → ℕ → ℕ → Gross → Gross
+transmitted_cell table s q g = adjusted (given (table 0 q)) g
+
 abbrev pub transmitted : Factors → Grossing → Grossing
-transmitted table below s q reading = adjusted (given (table 0 q)) (below s q reading)
+transmitted table below = layered transmitted_cell table below
 
 -- ---- distribution: a row of factors for each code A to E
 -- the loss code of each segment that the roll had when its codes were taken over
@@ -40,8 +44,11 @@ abbrev pub loss_by_code : Factors → ℕ → Option LossCode → Loss
 loss_by_code table q None = Missing
 loss_by_code table q (Some c) = loss_in_row table q (row_of_code c)
 
+abbrev pub distributed_cell : Codes → Factors → ℕ → ℕ → Gross → Gross
+distributed_cell codes table s q g = adjusted (loss_by_code table q (slice_index_or codes s None)) g
+
 abbrev pub distributed : Codes → Factors → Grossing → Grossing
-distributed codes table below s q reading = adjusted (loss_by_code table q (slice_index_or codes s None)) (below s q reading)
+distributed codes table below = layered (distributed_cell codes) table below
 
 -- the code that a row of the roll gives its segment
 abbrev pub roll_code : Option Row → Option LossCode

@@ -1,4 +1,5 @@
 pub mod Adjusting
 pub mod Factors
+pub mod Layered
 pub mod Layers
 pub mod Bounds

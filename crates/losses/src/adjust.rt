@@ -1,12 +1,9 @@
 // What one layer makes of the load below it.
 ghost use Rattle.std.specs.Prelude.{◌≡◌, ℕ, ◌≤◌};
-ghost use Rattle.std.specs.Option.{unwrap_or};
-ghost use Rattle.std.specs.Result.{result_ok};
 ghost use Rattle.refusal.specs.declared.Refusal.TheVariants.{SegmentNumber, QuarterHour};
 ghost use Rattle.book.specs.Answers.{load_answer};
 ghost use Rattle.book.specs.Grossing.{Gross, Fault, refusal_of};
-ghost use Rattle.losses.specs.Adjusting.{Small, adjusted, given, higher, grossed_up};
-ghost use Rattle.losses.specs.Factors.{Lawful};
+ghost use Rattle.losses.specs.Adjusting.{Small, adjusted, higher, grossed_up};
 
 use refusal::Refusal;
 
@@ -17,18 +14,6 @@ pub enum Loss {
     Unchanged,
     Missing,
     Factor(u32),
-}
-
-/// The loss by a factor that was given, or was not.
-pub(crate) fn by_factor(factor: Option<u32>) -> Loss
-    requires { Lawful factor }
-    ensures loss { result ≡ given factor }
-    ensures small { Small result }
-{
-    match factor {
-        Some(factor) => Loss::Factor(factor),
-        None => Loss::Missing,
-    }
 }
 
 /// One layer up. A height stops at 255.
@@ -61,47 +46,23 @@ fn one_up(refusal: Refusal) -> Refusal
     }
 }
 
-/// A load with its losses, to the nearest Wh.
-#[tactic(auto, using(crate::proofs::Adjusting::losses_fit), unfolding(crate::specs::Adjusting::grossed_up))]
-fn with_losses(factor: u32, load: u32) -> u32
+/// A load of any size with its losses, to the nearest Wh.
+#[tactic(auto, unfolding(crate::specs::Adjusting::grossed_up))]
+fn with_losses(factor: u32, load: u32) -> u64
     requires factor { factor ≤ 500000 }
-    requires load { load ≤ 4000000 }
     ensures { result ≡ grossed_up factor load }
 {
     let millionths = u64::from(load) * (1_000_000 + u64::from(factor));
-    ((millionths + 500_000) / 1_000_000) as u32
+    (millionths + 500_000) / 1_000_000
 }
 
 /// The layer's answer for a segment, by an answer below that holds a load of any size: what is past
 /// the limit of a load book stays past it under any factor.
-pub(crate) fn adjust_any_load(
-    below: Result<u32, Refusal>,
-    loss: Loss,
-    segment: u8,
-) -> Result<u32, Refusal>
+pub(crate) fn adjust(below: Result<u32, Refusal>, loss: Loss, segment: u8) -> Result<u32, Refusal>
     requires { Small loss }
     ensures { (q : ℕ) (g : Gross) → below ≡ load_answer segment q g → result ≡ load_answer segment q (adjusted loss g) }
 {
-    match (below, loss) {
-        (Ok(load), Loss::Unchanged) => Ok(load),
-        (Ok(_), Loss::Missing) => Err(Refusal::NoFactor { segment, height: 0 }),
-        (Ok(load), Loss::Factor(_)) if load > 4_000_000 => {
-            Err(Refusal::LoadTooLarge { segment, height: 0 })
-        }
-        _ => adjust(below, loss, segment),
-    }
-}
-
-/// The layer's answer for a segment, by the answer of the book below.
-pub(crate) fn adjust(below: Result<u32, Refusal>, loss: Loss, segment: u8) -> Result<u32, Refusal>
-    requires load { unwrap_or (result_ok below) 0 ≤ 4000000 }
-    requires factor { Small loss }
-    ensures { (q : ℕ) (g : Gross) → below ≡ load_answer segment q g → result ≡ load_answer segment q (adjusted loss g) }
-{
-    let load = match below {
-        Ok(load) => load,
-        Err(refusal) => return Err(one_up(refusal)),
-    };
+    let load = below.map_err(one_up)?;
     match loss {
         Loss::Unchanged => Ok(load),
         Loss::Missing => Err(Refusal::NoFactor { segment, height: 0 }),
@@ -110,7 +71,7 @@ pub(crate) fn adjust(below: Result<u32, Refusal>, loss: Loss, segment: u8) -> Re
             if load > 4_000_000 {
                 Err(Refusal::LoadTooLarge { segment, height: 0 })
             } else {
-                Ok(load)
+                Ok(load as u32)
             }
         }
     }

@@ -1,6 +1,6 @@
 // The distribution adjustment: a loss factor for each code A to E and quarter hour.
+use crate::adjusted::Adjusted;
 use crate::table::FactorTable;
-use book::LoadBook;
 use roll::LossCode;
 
 pub mod entries;
@@ -17,9 +17,4 @@ pub struct DistributionTable {
 
 /// A load book under a distribution loss factor for each loss code and quarter hour. It knows the
 /// segments' codes from the roll as it was when they were last taken over.
-#[derive(Drop)]
-pub struct Distribution<B: LoadBook + Drop> {
-    below: B,
-    table: FactorTable<5>,
-    codes: [Option<LossCode>; 64],
-}
+pub type Distribution<B> = Adjusted<B, DistributionTable>;

@@ -2,9 +2,11 @@
 #![tactic(auto)]
 
 mod adjust;
+mod adjusted;
 mod distribution;
 mod table;
 mod transmission;
 
+pub use adjusted::{Adjusted, Adjustment};
 pub use distribution::{Distribution, DistributionTable};
 pub use transmission::{Transmission, TransmissionTable};

@@ -1,6 +1,6 @@
 // The transmission adjustment: one loss factor for each quarter hour.
+use crate::adjusted::Adjusted;
 use crate::table::FactorTable;
-use book::LoadBook;
 
 pub mod entries;
 pub mod layer;
@@ -13,8 +13,4 @@ pub struct TransmissionTable {
 }
 
 /// A load book under a transmission loss factor for each quarter hour.
-#[derive(Drop)]
-pub struct Transmission<B: LoadBook + Drop> {
-    below: B,
-    table: FactorTable<1>,
-}
+pub type Transmission<B> = Adjusted<B, TransmissionTable>;

@@ -6,9 +6,9 @@ use Rattle.roll.specs.Marks.{code_of}
 use Rattle.roll.specs.declared.row.Row.{Row}
 use Rattle.book.specs.Grossing.{Gross, Grossing}
 use Rattle.book.specs.Tables.{at}
-use Rattle.losses.specs.Adjusting.{adjusted, given}
 use Rattle.losses.specs.Factors.{Factors}
-use Rattle.losses.specs.Layers.{Codes, distributed, transmitted, loss_by_code, roll_code, letter_row, factor_answer, after_giving}
+use Rattle.losses.specs.Layered.{layered, maybe}
+use Rattle.losses.specs.Layers.{Codes, distributed_cell, transmitted_cell, roll_code, letter_row, factor_answer, after_giving}
 use Rattle.pile.specs.declared.layers.Layer.{Layer}
 use Rattle.pile.specs.declared.layers.Layer.TheVariants as layer
 use Rattle.pile.specs.declared.layers.Layers.{Layers}
@@ -24,14 +24,12 @@ meaning_of (layer.Transmission t) = transmission (at t.factors.rows)
 
 -- what a layer makes of one cell
 abbrev pub adjusted_by : Meaning → ℕ → ℕ → Gross → Gross
-adjusted_by (distribution codes factors) s q g = adjusted (loss_by_code factors q (slice_index_or codes s None)) g
-adjusted_by (transmission factors) s q g = adjusted (given (factors 0 q)) g
+adjusted_by (distribution codes factors) s q g = distributed_cell codes factors s q g
+adjusted_by (transmission factors) s q g = transmitted_cell factors s q g
 
 -- the grossing under a layer, or under none
 abbrev pub raised : Option Meaning → Grossing → Grossing
-raised None below = below
-raised (Some (distribution codes factors)) below = distributed codes factors below
-raised (Some (transmission factors)) below = transmitted factors below
+raised layer below = layered (maybe adjusted_by) layer below
 
 -- the layers from the lowest, and how many there are
 abbrev pub layers_of : Layers → List (Option Meaning)

@@ -1,5 +1,5 @@
 // The layers of a pile before there is a book to lay them over.
-ghost use Rattle.std.specs.Prelude.{◌≡◌, ◌≤◌, length};
+ghost use Rattle.std.specs.Prelude.{◌≤◌};
 
 use losses::{DistributionTable, TransmissionTable};
 
@@ -14,10 +14,10 @@ pub enum Layer {
 }
 
 /// Up to four layers, the lowest first.
+// The height stands beside an array, since an ArrayVec is not Copy, and this is.
 #[derive(Clone, Copy)]
 pub struct Layers {
     layers: [Option<Layer>; 4],
     height: usize,
-    ghost places: { length layers ≡ 4 },
     ghost within: { height ≤ 4 },
 }

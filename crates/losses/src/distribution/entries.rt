@@ -1,20 +1,68 @@
-// How a distribution table is filled, what it makes of a load, and the layer that it makes of a book.
-ghost use Rattle.std.specs.Prelude.{◌≡◌, map, replicate, None, slice_index_or};
+// How a distribution table is filled, and what it makes of a load.
+ghost use Rattle.std.specs.Prelude.{◌≡◌, ◌≤◌, map, replicate, None, slice_index_or};
+ghost use Rattle.std.specs.Option.{unwrap_or};
 ghost use Rattle.roll.specs.Entries.{rows_of};
 ghost use Rattle.roll.specs.Marks.{code_of};
 ghost use Rattle.book.specs.Tables.{at, blank};
-ghost use Rattle.book.specs.Answers.{load_answer};
-ghost use Rattle.book.specs.Grossing.{Gross};
-ghost use Rattle.losses.specs.Adjusting.{adjusted};
-ghost use Rattle.losses.specs.Layers.{distributed, letter_row, loss_by_code, roll_code, factor_answer, after_giving};
+ghost use Rattle.losses.specs.Adjusting.{Small};
+ghost use Rattle.losses.specs.Bounds.{adjusted_bounded};
+ghost use Rattle.losses.specs.Layers.{distributed_cell, row_of_code, letter_row, loss_by_code, roll_code, factor_answer, after_giving};
 
-use crate::adjust::adjust_any_load;
-use crate::distribution::layer::{code_at, codes_of, enter_factor, loss_of};
-use crate::distribution::{Distribution, DistributionTable};
+use crate::adjust::{Loss, adjust};
+use crate::adjusted::Adjustment;
+use crate::distribution::DistributionTable;
 use crate::table::FactorTable;
-use book::LoadBook;
 use refusal::Refusal;
-use roll::Roll;
+use roll::{LossCode, Roll};
+
+/// The row of the table that a code's factors stand in. A segment at transmission voltage has no
+/// distribution loss, and its code no row.
+fn row_of(code: LossCode) -> Option<usize>
+    ensures row { result ≡ row_of_code code }
+    ensures within { unwrap_or result 0 ≤ 4 }
+{
+    match code {
+        LossCode::A => Some(0),
+        LossCode::B => Some(1),
+        LossCode::C => Some(2),
+        LossCode::D => Some(3),
+        LossCode::E => Some(4),
+        LossCode::T => None,
+    }
+}
+
+/// The code that a letter stands for, if it is one of the six.
+fn code_of_letter(letter: u8) -> Option<LossCode>
+    ensures { result ≡ code_of letter }
+{
+    LossCode::from_byte(letter)
+}
+
+/// The row of the table that a letter names, if it is one of A to E.
+fn row_of_letter(letter: u8) -> Option<usize>
+    ensures row { result ≡ letter_row (code_of letter) }
+    ensures within { unwrap_or result 0 ≤ 4 }
+{
+    row_of(code_of_letter(letter)?)
+}
+
+/// The code that the roll has for a segment, or none.
+fn code_on_roll(roll: &Roll, segment: u8) -> Option<LossCode>
+    ensures { result ≡ roll_code (slice_index_or (rows_of roll.now) segment None) }
+{
+    code_of_letter(roll.row(segment)?.code)
+}
+
+/// The codes of the whole roll.
+fn codes_of(roll: &Roll) -> [Option<LossCode>; 64]
+    ensures { result ≡ map roll_code (rows_of roll.now) }
+{
+    let mut codes = [None; 64];
+    for segment in 0..64u8 {
+        codes[segment as usize] = code_on_roll(roll, segment);
+    }
+    codes
+}
 
 impl DistributionTable {
     /// No factor is given, and no code taken over.
@@ -34,7 +82,8 @@ impl DistributionTable {
         ensures codes { self.new.codes ≡ self.old.codes }
         ensures factors { at self.new.factors.rows ≡ after_giving result (letter_row (code_of letter)) quarter_hour factor (at self.old.factors.rows) }
     {
-        enter_factor(&mut self.factors, letter, quarter_hour, factor)
+        self.factors
+            .give(row_of_letter(letter), quarter_hour, factor)
     }
 
     /// Takes over the loss codes of a roll, all at once. A segment that is not on it has none.
@@ -45,32 +94,33 @@ impl DistributionTable {
         self.codes = codes_of(roll);
     }
 
-    /// The load of a cell, or why it has none, by the answer of a book below.
-    pub fn gross(
+    /// What a segment loses in a quarter hour, by the code that was taken over for it.
+    fn loss(&self, segment: u8, quarter_hour: u8) -> Loss
+        ensures loss { result ≡ loss_by_code (at self.now.factors.rows) quarter_hour (slice_index_or self.now.codes segment None) }
+        ensures small { Small result }
+    {
+        match self.codes.get(segment as usize) {
+            Some(Some(code)) => match row_of(*code) {
+                Some(row) => self.factors.loss(row, quarter_hour),
+                None => Loss::Unchanged,
+            },
+            _ => Loss::Missing,
+        }
+    }
+}
+
+impl Adjustment for DistributionTable {
+    ghost adjusted = { λ t. distributed_cell t.codes (at t.factors.rows) };
+
+    ghost bounded = { λ t s q. adjusted_bounded (loss_by_code (at t.factors.rows) q (slice_index_or t.codes s None)) };
+
+    fn gross(
         &self,
         below: Result<u32, Refusal>,
         segment: u8,
         quarter_hour: u8,
-    ) -> Result<u32, Refusal>
-        ensures { (g : Gross) → below ≡ load_answer segment quarter_hour g → result ≡ load_answer segment quarter_hour (adjusted (loss_by_code (at self.now.factors.rows) quarter_hour (slice_index_or self.now.codes segment None)) g) }
-    {
-        let code = code_at(&self.codes, segment);
-        let loss = loss_of(&self.factors, code, quarter_hour);
-        adjust_any_load(below, loss, segment)
-    }
-
-    /// The layer over a book, by this table.
-    pub fn over<B: LoadBook + Drop>(self, below: B) -> Distribution<B>
-        ensures below { result.below ≡ below }
-        ensures table { result.table ≡ self.factors }
-        ensures codes { result.codes ≡ self.codes }
-        ensures grossing { distributed result.codes (at result.table.rows) (B.LoadBook.grossing result.below) ≡ distributed self.codes (at self.factors.rows) (B.LoadBook.grossing below) }
-    {
-        let codes = self.codes;
-        Distribution {
-            below,
-            table: self.factors,
-            codes,
-        }
+    ) -> Result<u32, Refusal> {
+        let loss = self.loss(segment, quarter_hour);
+        adjust(below, loss, segment)
     }
 }

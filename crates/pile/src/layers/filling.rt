@@ -1,4 +1,5 @@
-// How a layer is added, and how one that is there is filled. Layers are numbered from 1.
+// How a layer is added, and how one that is there is filled. Layers are numbered from 1. To fill one is
+// to take its table out, and to put it back: no proof lends out of an array of such enums.
 ghost use Rattle.std.specs.Prelude.{◌≡◌, ◌+◌, ◌-◌, ◌≤◌, true, replicate, is_some, if◌then◌else◌, Some, None, nat_lt, slice_set};
 ghost use Rattle.std.specs.Option.{option_map};
 ghost use Rattle.roll.specs.Entries.{rows_of};
@@ -21,23 +22,17 @@ impl Layers {
     }
 
     /// Puts a layer on top and answers its number; or answers none, where there are four.
-    #[tactic(auto, using(crate::proofs::Putting::meanings_after_putting))]
     pub fn add(&mut self, layer: Layer) -> Option<usize>
         ensures answer { result ≡ (if nat_lt (height_of self.old) 4 then Some (height_of self.old + 1) else None) }
         ensures layers { layers_of self.new ≡ (if is_some result then slice_set (layers_of self.old) (height_of self.old) (Some (meaning_of layer)) else layers_of self.old) }
         ensures height { height_of self.new ≡ (if is_some result then height_of self.old + 1 else height_of self.old) }
     {
-        let at = self.height;
-        if at >= 4 {
+        if self.height >= 4 {
             return None;
         }
-        let mut layers = self.layers;
-        layers[at] = Some(layer);
-        *self = Layers {
-            layers,
-            height: at + 1,
-        };
-        Some(at + 1)
+        self.layers[self.height] = Some(layer);
+        self.height += 1;
+        Some(self.height)
     }
 
     /// The layer with a number, if it is there.
@@ -45,24 +40,19 @@ impl Layers {
         ensures meaning { option_map meaning_of result ≡ layer_at (layers_of self.now) number }
         ensures numbers { is_some result ≡ true → (1 ≤ number) × (number ≤ 4) }
     {
-        if number >= 1 && number <= 4 {
-            self.layers[number - 1]
-        } else {
-            None
+        match number {
+            1..=4 => self.layers[number - 1],
+            _ => None,
         }
     }
 
     /// Puts a layer in the place of another.
-    #[tactic(auto, using(crate::proofs::Putting::meanings_after_putting))]
     fn put(&mut self, number: usize, layer: Layer)
         requires number { (1 ≤ number) × (number ≤ 4) }
         ensures layers { layers_of self.new ≡ slice_set (layers_of self.old) (number - 1) (Some (meaning_of layer)) }
         ensures height { height_of self.new ≡ height_of self.old }
     {
-        let mut layers = self.layers;
-        layers[number - 1] = Some(layer);
-        let height = self.height;
-        *self = Layers { layers, height };
+        self.layers[number - 1] = Some(layer);
     }
 
     /// Gives the factor of a code's letter and a quarter hour in a distribution layer. Answers none
@@ -78,18 +68,12 @@ impl Layers {
         ensures layers { layers_of self.new ≡ (if is_some result then slice_set (layers_of self.old) (number - 1) (distribution_after (layer_at (layers_of self.old) number) letter quarter_hour factor) else layers_of self.old) }
         ensures height { height_of self.new ≡ height_of self.old }
     {
-        let Some(layer) = self.layer(number) else {
+        let Some(Layer::Distribution(mut table)) = self.layer(number) else {
             return None;
         };
-        match layer {
-            Layer::Distribution(table) => {
-                let mut table = table;
-                let answer = table.set_factor(letter, quarter_hour, factor);
-                self.put(number, Layer::Distribution(table));
-                Some(answer)
-            }
-            Layer::Transmission(_) => None,
-        }
+        let answer = table.set_factor(letter, quarter_hour, factor);
+        self.put(number, Layer::Distribution(table));
+        Some(answer)
     }
 
     /// Gives the factor of a quarter hour in a transmission layer. Answers none where no layer of
@@ -104,18 +88,12 @@ impl Layers {
         ensures layers { layers_of self.new ≡ (if is_some result then slice_set (layers_of self.old) (number - 1) (transmission_after (layer_at (layers_of self.old) number) quarter_hour factor) else layers_of self.old) }
         ensures height { height_of self.new ≡ height_of self.old }
     {
-        let Some(layer) = self.layer(number) else {
+        let Some(Layer::Transmission(mut table)) = self.layer(number) else {
             return None;
         };
-        match layer {
-            Layer::Transmission(table) => {
-                let mut table = table;
-                let answer = table.set_factor(quarter_hour, factor);
-                self.put(number, Layer::Transmission(table));
-                Some(answer)
-            }
-            Layer::Distribution(_) => None,
-        }
+        let answer = table.set_factor(quarter_hour, factor);
+        self.put(number, Layer::Transmission(table));
+        Some(answer)
     }
 
     /// Takes the loss codes of a roll over into a distribution layer. Answers whether a layer of that
@@ -125,17 +103,11 @@ impl Layers {
         ensures layers { layers_of self.new ≡ (if result then slice_set (layers_of self.old) (number - 1) (codes_after (layer_at (layers_of self.old) number) (rows_of roll.now)) else layers_of self.old) }
         ensures height { height_of self.new ≡ height_of self.old }
     {
-        let Some(layer) = self.layer(number) else {
+        let Some(Layer::Distribution(mut table)) = self.layer(number) else {
             return false;
         };
-        match layer {
-            Layer::Distribution(table) => {
-                let mut table = table;
-                table.take_over_codes(roll);
-                self.put(number, Layer::Distribution(table));
-                true
-            }
-            Layer::Transmission(_) => false,
-        }
+        table.take_over_codes(roll);
+        self.put(number, Layer::Distribution(table));
+        true
     }
 }

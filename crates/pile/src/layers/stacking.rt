@@ -6,6 +6,7 @@ ghost use Rattle.pile.specs.Levels.{standing_by, places_by, grossing_by};
 use crate::layers::Layers;
 use crate::level::Level;
 use book::LoadBook;
+use losses::Adjustment;
 
 impl Layers {
     /// All the layers over a book, the lowest first. What stands and the places are the book's.
@@ -14,9 +15,9 @@ impl Layers {
         ensures places { places_by (places_by (places_by (places_by B.LoadBook.places))) result ≡ B.LoadBook.places book }
         ensures grossing { grossing_by (grossing_by (grossing_by (grossing_by B.LoadBook.grossing))) result ≡ raised (layer_at (layers_of self.now) 4) (raised (layer_at (layers_of self.now) 3) (raised (layer_at (layers_of self.now) 2) (raised (layer_at (layers_of self.now) 1) (B.LoadBook.grossing book)))) }
     {
-        let first = Level::over(self.layer(1), book);
-        let second = Level::over(self.layer(2), first);
-        let third = Level::over(self.layer(3), second);
-        Level::over(self.layer(4), third)
+        let first = self.layer(1).over(book);
+        let second = self.layer(2).over(first);
+        let third = self.layer(3).over(second);
+        self.layer(4).over(third)
     }
 }

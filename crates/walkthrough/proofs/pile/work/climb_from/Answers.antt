@@ -1,7 +1,8 @@
 use Rattle.std.proofs.Common.{Some, ap, ◌∙◌}
 use Rattle.book.specs.Grossing.{Grossing}
 use Rattle.book.specs.Tables.{at, put_at}
-use Rattle.losses.specs.declared.distribution.Distribution.{Distribution}
+use Rattle.losses.specs.declared.adjusted.Adjusted.{Adjusted}
+use Rattle.losses.specs.declared.distribution.DistributionTable.{DistributionTable}
 use Rattle.losses.specs.declared.table.FactorTable.{FactorTable}
 use Rattle.losses.specs.Layers.{distributed}
 use Rattle.walkthrough.specs.Piles.{answer_for, over_transmission}
@@ -23,7 +24,7 @@ returns g c =
     let middle = c.load-distributed.ensures ∙ answer_same _ _ _ _ s q first (ap st below) in
     let over = c.over-transmission.ensures in
     let given = c.in_ok-set_factor-2.ensures in
-    let gr2 = λ (d : Distribution g.row.B.Denot). distributed d.codes (at d.table.rows) (gr d.below) in
-    let up = transmission_same _ _ _ _ _ _ _ 48 20000 s q over.grossing given.factors (ap gr2 over.below) (ap gr2 (given.below ∙ over.below)) (ap st (ap (λ (d : Distribution g.row.B.Denot). d.below) (given.below ∙ over.below) ∙ below)) in
+    let gr2 = λ (d : Adjusted g.row.B.Denot DistributionTable). distributed d.table.codes (at d.table.factors.rows) (gr d.below) in
+    let up = transmission_same _ _ _ _ _ _ _ 48 20000 s q over.grossing given.factors (ap gr2 over.below) (ap gr2 (given.below ∙ over.below)) (ap st (ap (λ (d : Adjusted g.row.B.Denot DistributionTable). d.below) (given.below ∙ over.below) ∙ below)) in
     let top = c.load-transmitted.ensures ∙ up ∙ ap (λ (x : Grossing). answer_for (over_transmission 20000 x) (st c.args.book) s q) first in
     climb_same c.load-metered.ensures middle top

@@ -4,7 +4,7 @@ use Rattle.std.proofs.lemmas.List.Edits.{fill_by_more}
 use Rattle.std.proofs.lemmas.List.{ext_get_or, get_or-map}
 use Rattle.roll.specs.Entries.{rows_of}
 use Rattle.losses.specs.Layers.{roll_code}
-use Rattle.losses.proofs.distribution.layer.codes_of.Goals as goal
+use Rattle.losses.proofs.distribution.entries.codes_of.Goals as goal
 
 pub loop-segment-preserved : goal.loop-segment-preserved
 loop-segment-preserved c =

@@ -1,7 +1,7 @@
 use Rattle.std.proofs.Common.{◌≡◌, ℕ, ◌<◌, length, get_or, None}
 use Rattle.roll.specs.Entries.{rows_of}
 use Rattle.losses.specs.Layers.{roll_code}
-use Rattle.losses.proofs.distribution.layer.codes_of.Given as goal
+use Rattle.losses.proofs.distribution.entries.codes_of.Given as goal
 
 -- the codes below the segment are those of the roll
 abbrev pub invariant-loop-segment : goal.invariant-loop-segment
