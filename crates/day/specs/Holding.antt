@@ -1,5 +1,6 @@
 -- The setting and the slate that a day holds. Assumes nothing.
-use Rattle.std.specs.Prelude.{◌≡◌, ℕ}
+use Rattle.std.specs.Prelude.{◌≡◌, ℕ, Some, None, Ok, Err, Result}
+use Rattle.refusal.specs.declared.Refusal.{Refusal}
 use Rattle.roll.specs.declared.draft.DayLength.{DayLength}
 use Rattle.roll.specs.declared.roll.Roll.{Roll}
 use Rattle.roll.specs.Days.{quarters_of}
@@ -8,8 +9,11 @@ use Rattle.book.specs.declared.LoadBook.{Ghosts}
 use Rattle.book.specs.Grossing.{Grossing}
 use Rattle.balance.specs.Balance.{Sheet}
 use Rattle.balance.specs.Figures.{figures_of}
+use Rattle.balance.specs.Gathering.{quarter}
 use Rattle.balance.specs.Quarter.{Quarter}
+use Rattle.balance.specs.declared.questions.QuarterHour.{QuarterHour}
 use Rattle.day.specs.declared.states.Day.{Day}
+use Rattle.day.specs.Entries.{late}
 use Rattle.day.specs.Questions.{quarter_at, sheet_at}
 use Rattle.day.specs.Slate.{Setting, Slate}
 
@@ -44,3 +48,8 @@ day_sheet meaning day q = sheet_at (day_setting meaning day) (day_slate meaning 
 pub record Holds {B S : Type 0} (meaning : Ghosts B) (day : Day B S) (given : Setting) (standing : Slate) : Type 0 where
   pub setting : day_setting meaning day ≡ given
   pub slate : day_slate meaning day ≡ standing
+
+-- that a quarter hour of a day is looked at as it stands there, unless the day has no such one
+abbrev pub AskedOf : {B S : Type 0} → Ghosts B → Day B S → ℕ → Result (QuarterHour B) Refusal → Type 0
+AskedOf meaning day q (Ok x) = (late (quarters_of day.length) q ≡ None) × (x.quarter_hour ≡ q) × (quarter meaning x ≡ day_quarter meaning day q)
+AskedOf meaning day q (Err e) = late (quarters_of day.length) q ≡ Some e
