@@ -22,6 +22,13 @@ impl Roll {
         }
     }
 
+    /// The row of each segment number, or none.
+    pub fn rows(&self) -> &[Option<Row>; 64]
+        ensures { result.now ≡ rows_of self.now }
+    {
+        &self.segments
+    }
+
     /// The row that stands under a segment's number.
     pub fn row(&self, number: u8) -> Option<Row>
         ensures row { result ≡ slice_index_or (rows_of self.now) number None }

@@ -2,7 +2,7 @@ use Rattle.std.proofs.Common.{length, pos, ap, arith, w8, w64, Fits, SFits, rule
 use Rattle.statement.specs.Text.{line}
 use Rattle.statement.proofs.Passing.{three_passed}
 use Rattle.statement.proofs.Pieces.{line_three, numeral_plain}
-use Rattle.statement.proofs.whole.put_refusal.Goals as goal
+use Rattle.statement.proofs.page.Page.put_refusal.Goals as goal
 
 pub put_line-requires : goal.put_line-requires
 put_line-requires c =
