@@ -1,5 +1,5 @@
 -- What a question is refused with, or else answers, by the setting and the slate alone. Assumes nothing.
-use Rattle.std.specs.Prelude.{ℕ, List, map, length, ℤ, Option, Result}
+use Rattle.std.specs.Prelude.{ℕ, List, ◌++◌, map, length, drop, ℤ, Option, Result}
 use Rattle.std.specs.List.{range_with_len}
 use Rattle.refusal.specs.declared.Refusal.{Refusal}
 use Rattle.balance.specs.declared.questions.Ufe.{Ufe}
@@ -73,6 +73,10 @@ shares_answer setting slate q len = ok_unless (shares_refusal setting slate q le
 
 abbrev pub statement_at : Setting → Slate → ℕ → List ℕ
 statement_at setting slate q = statement_of (quarter_at setting slate q)
+
+-- written from the start of a list, whose other bytes stay
+abbrev pub statement_over : Setting → Slate → ℕ → List ℕ → List ℕ
+statement_over setting slate q text = statement_at setting slate q ++ drop (length (statement_at setting slate q)) text
 
 abbrev pub statement_answer : Setting → Slate → ℕ → ℕ → Result ℕ Refusal
 statement_answer setting slate q len =

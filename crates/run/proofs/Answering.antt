@@ -1,12 +1,11 @@
 -- An answer that says only that a list was filled, and the list. Assumes nothing.
-use Rattle.std.proofs.Common.{◌≡◌, Some, None, Ok, Err, Option, refl}
+use Rattle.std.proofs.Common.{◌≡◌, cond, is_ok, Some, None, Ok, Err, Option, Result, ap}
 use Rattle.refusal.specs.declared.Refusal.{Refusal}
 use Rattle.balance.specs.Questions.{ok_unless}
+use Rattle.day.specs.Entries.{why_not}
 
-pub filled : {X : Type 0} (o : Option Refusal) (x : X) (u : Unit {0}) → Ok u ≡ ok_unless o tt → Ok x ≡ ok_unless o x
-filled None x u h = refl
-filled (Some e) x u h = cc
-
-pub unfilled : {X : Type 0} (o : Option Refusal) (x : X) (e : Refusal) → Err e ≡ ok_unless {X = Unit {0}} o tt → Err e ≡ ok_unless o x
-unfilled None x e h = cc
-unfilled (Some f) x e h = cc
+pub filled : {X : Type 0} (o : Option Refusal) (x old list : X) (r : Result (Unit {0}) Refusal) → r ≡ ok_unless o tt → list ≡ cond (is_ok r) x old → ok_unless (why_not r) list ≡ ok_unless o x
+filled None x old list (Ok u) h e = ap Ok e
+filled None x old list (Err f) h e = cc
+filled (Some f) x old list (Ok u) h e = cc
+filled (Some f) x old list (Err d) h e = cc

@@ -1,9 +1,9 @@
 // A day in whichever state it is in.
-ghost use Rattle.std.specs.Prelude.{◌≡◌, ◌++◌, length, drop, is_ok, if◌then◌else◌};
-ghost use Rattle.day.specs.Questions.{statement_at, statement_answer};
+ghost use Rattle.std.specs.Prelude.{◌≡◌, length, is_ok, if◌then◌else◌};
+ghost use Rattle.day.specs.Questions.{statement_over, statement_answer};
 ghost use Rattle.run.specs.declared.call.Call.TheVariants.{Entry as entered, Question as asked, Seal, Reopen};
-ghost use Rattle.run.specs.Courses.{answer_to, stepped};
-ghost use Rattle.run.specs.Holding.{setting_of_any, slate_of_any, course_of_any, state_of};
+ghost use Rattle.run.specs.Courses.{answer_to};
+ghost use Rattle.run.specs.Holding.{setting_of_any, slate_of_any, course_of_any, state_of, Steps};
 
 use crate::call::{Answer, Call, DayState, Entry, Question};
 use crate::doing::{ask, enter};
@@ -34,7 +34,7 @@ impl<B: LoadBook + Drop> AnyDay<B> {
     /// The statement of a quarter hour, which every day gives.
     pub fn statement(&self, quarter_hour: u8, text: &mut [u8]) -> Result<usize, Refusal>
         ensures answer { result ≡ statement_answer (setting_of_any B.LoadBook self.now) (slate_of_any B.LoadBook self.now) quarter_hour (length text.old) }
-        ensures after { text.new ≡ (if is_ok result then statement_at (setting_of_any B.LoadBook self.now) (slate_of_any B.LoadBook self.now) quarter_hour ++ drop (length (statement_at (setting_of_any B.LoadBook self.now) (slate_of_any B.LoadBook self.now) quarter_hour)) text.old else text.old) }
+        ensures after { text.new ≡ (if is_ok result then statement_over (setting_of_any B.LoadBook self.now) (slate_of_any B.LoadBook self.now) quarter_hour text.old else text.old) }
     {
         match self {
             AnyDay::OpenInitial(day) => day.statement(quarter_hour, text),
@@ -46,9 +46,7 @@ impl<B: LoadBook + Drop> AnyDay<B> {
 
     /// An entry, which only an open day takes.
     fn enter(&mut self, entry: &Entry) -> Answer
-        ensures answer { result ≡ answer_to (setting_of_any B.LoadBook self.old) (course_of_any B.LoadBook self.old) (entered entry.now) }
-        ensures course { course_of_any B.LoadBook self.new ≡ stepped (setting_of_any B.LoadBook self.old) (course_of_any B.LoadBook self.old) (entered entry.now) }
-        ensures setting { setting_of_any B.LoadBook self.new ≡ setting_of_any B.LoadBook self.old }
+        ensures { Steps B.LoadBook self.old (entered entry.now) result self.new }
     {
         match self {
             AnyDay::OpenInitial(day) => enter(day, entry),
@@ -71,9 +69,7 @@ impl<B: LoadBook + Drop> AnyDay<B> {
 
     /// Seals an open day.
     fn seal(self) -> (AnyDay<B>, Answer)
-        ensures answer { result.1 ≡ answer_to (setting_of_any B.LoadBook self) (course_of_any B.LoadBook self) Seal }
-        ensures course { course_of_any B.LoadBook result.0 ≡ stepped (setting_of_any B.LoadBook self) (course_of_any B.LoadBook self) Seal }
-        ensures setting { setting_of_any B.LoadBook result.0 ≡ setting_of_any B.LoadBook self }
+        ensures { Steps B.LoadBook self Seal result.1 result.0 }
     {
         match self {
             AnyDay::OpenInitial(day) => (AnyDay::SealedInitial(day.seal()), Answer::Done),
@@ -84,9 +80,7 @@ impl<B: LoadBook + Drop> AnyDay<B> {
 
     /// Reopens a day that is sealed as initial.
     fn reopen(self) -> (AnyDay<B>, Answer)
-        ensures answer { result.1 ≡ answer_to (setting_of_any B.LoadBook self) (course_of_any B.LoadBook self) Reopen }
-        ensures course { course_of_any B.LoadBook result.0 ≡ stepped (setting_of_any B.LoadBook self) (course_of_any B.LoadBook self) Reopen }
-        ensures setting { setting_of_any B.LoadBook result.0 ≡ setting_of_any B.LoadBook self }
+        ensures { Steps B.LoadBook self Reopen result.1 result.0 }
     {
         match self {
             AnyDay::SealedInitial(day) => (AnyDay::OpenFinal(day.reopen()), Answer::Done),
@@ -95,16 +89,13 @@ impl<B: LoadBook + Drop> AnyDay<B> {
     }
 
     /// One call. One that the day's state does not take is answered so, and changes nothing.
-    pub fn step(self, call: &Call) -> (AnyDay<B>, Answer)
-        ensures answer { result.1 ≡ answer_to (setting_of_any B.LoadBook self) (course_of_any B.LoadBook self) call.now }
-        ensures course { course_of_any B.LoadBook result.0 ≡ stepped (setting_of_any B.LoadBook self) (course_of_any B.LoadBook self) call.now }
-        ensures setting { setting_of_any B.LoadBook result.0 ≡ setting_of_any B.LoadBook self }
+    pub fn step(mut self, call: &Call) -> (AnyDay<B>, Answer)
+        ensures { Steps B.LoadBook self call.now result.1 result.0 }
     {
         match call {
             Call::Entry(entry) => {
-                let mut day = self;
-                let answer = day.enter(entry);
-                (day, answer)
+                let answer = self.enter(entry);
+                (self, answer)
             }
             Call::Question(question) => {
                 let answer = self.ask(question);

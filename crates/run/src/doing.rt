@@ -1,8 +1,8 @@
 // One entry or one question, done by the day's own call for it.
 ghost use Rattle.std.specs.Prelude.{◌≡◌};
 ghost use Rattle.balance.specs.Questions.{ok_unless};
-ghost use Rattle.day.specs.Holding.{day_setting, day_slate};
-ghost use Rattle.day.specs.Questions.{loads_refusal, loads_at, shares_refusal, shares_at};
+ghost use Rattle.day.specs.Entries.{why_not};
+ghost use Rattle.day.specs.Holding.{day_setting, day_slate, Holds};
 ghost use Rattle.run.specs.Calls.{entry_answer, entered, question_answer};
 
 use crate::call::{Answer, Entry, Question};
@@ -12,8 +12,7 @@ use refusal::Refusal;
 
 pub(crate) fn enter<B: LoadBook + Drop, G: Drop>(day: &mut Day<B, Open<G>>, entry: &Entry) -> Answer
     ensures answer { result ≡ entry_answer (day_setting B.LoadBook day.old) (day_slate B.LoadBook day.old) entry.now }
-    ensures slate { day_slate B.LoadBook day.new ≡ entered (day_setting B.LoadBook day.old) (day_slate B.LoadBook day.old) entry.now }
-    ensures setting { day_setting B.LoadBook day.new ≡ day_setting B.LoadBook day.old }
+    ensures after { Holds B.LoadBook day.new (day_setting B.LoadBook day.old) (entered (day_setting B.LoadBook day.old) (day_slate B.LoadBook day.old) entry.now) }
 {
     match *entry {
         Entry::Post {
@@ -39,30 +38,12 @@ pub(crate) fn enter<B: LoadBook + Drop, G: Drop>(day: &mut Day<B, Open<G>>, entr
     }
 }
 
-fn loads<B: LoadBook + Drop, S: Drop>(
-    day: &Day<B, S>,
-    quarter_hour: u8,
-) -> Result<[i64; 64], Refusal>
-    ensures { result ≡ ok_unless (loads_refusal (day_setting B.LoadBook day.now) (day_slate B.LoadBook day.now) quarter_hour 64) (loads_at (day_setting B.LoadBook day.now) (day_slate B.LoadBook day.now) quarter_hour) }
+/// A list that was to be filled, where it was.
+fn listed<const N: usize>(filled: Result<(), Refusal>, list: [i64; N]) -> Result<[i64; N], Refusal>
+    ensures { result ≡ ok_unless (why_not filled) list.entry }
 {
-    let mut list = [0i64; 64];
-    match day.adjusted_loads(quarter_hour, &mut list) {
-        Ok(()) => Ok(list),
-        Err(refusal) => Err(refusal),
-    }
-}
-
-fn shares<B: LoadBook + Drop, S: Drop>(
-    day: &Day<B, S>,
-    quarter_hour: u8,
-) -> Result<[i64; 16], Refusal>
-    ensures { result ≡ ok_unless (shares_refusal (day_setting B.LoadBook day.now) (day_slate B.LoadBook day.now) quarter_hour 16) (shares_at (day_setting B.LoadBook day.now) (day_slate B.LoadBook day.now) quarter_hour) }
-{
-    let mut list = [0i64; 16];
-    match day.shares(quarter_hour, &mut list) {
-        Ok(()) => Ok(list),
-        Err(refusal) => Err(refusal),
-    }
+    filled?;
+    Ok(list)
 }
 
 pub(crate) fn ask<B: LoadBook + Drop, S: Drop>(day: &Day<B, S>, question: &Question) -> Answer
@@ -70,7 +51,9 @@ pub(crate) fn ask<B: LoadBook + Drop, S: Drop>(day: &Day<B, S>, question: &Quest
 {
     match *question {
         Question::AdjustedLoads { quarter_hour } => {
-            Answer::AdjustedLoads(loads(day, quarter_hour))
+            let mut loads = [0; 64];
+            let filled = day.adjusted_loads(quarter_hour, &mut loads);
+            Answer::AdjustedLoads(listed(filled, loads))
         }
         Question::Rtaml {
             quarter_hour,
@@ -80,6 +63,10 @@ pub(crate) fn ask<B: LoadBook + Drop, S: Drop>(day: &Day<B, S>, question: &Quest
         Question::GenerationAndUfe { quarter_hour } => {
             Answer::GenerationAndUfe(day.generation_and_ufe(quarter_hour))
         }
-        Question::Shares { quarter_hour } => Answer::Shares(shares(day, quarter_hour)),
+        Question::Shares { quarter_hour } => {
+            let mut shares = [0; 16];
+            let filled = day.shares(quarter_hour, &mut shares);
+            Answer::Shares(listed(filled, shares))
+        }
     }
 }

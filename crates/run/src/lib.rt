@@ -5,6 +5,7 @@ mod any_day;
 mod call;
 mod doing;
 mod whole;
+mod words;
 
 pub use any_day::AnyDay;
 pub use call::{Answer, Call, DayState, Entry, Question};

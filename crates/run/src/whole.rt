@@ -1,5 +1,5 @@
 // A whole run: a day is opened, and a list of calls is done on it.
-ghost use Rattle.std.specs.Prelude.{◌≡◌, ◌<◌, ◌&&◌, length, slice_set};
+ghost use Rattle.std.specs.Prelude.{◌≡◌};
 ghost use Rattle.run.specs.Calls.{taken};
 ghost use Rattle.run.specs.Law.{RunAs};
 
@@ -26,22 +26,11 @@ pub struct Unopened<B: LoadBook + Drop> {
     pub refusal: Refusal,
 }
 
-/// Whether a list that was lawful so far still is, once a call has its answer.
-fn still_lawful(lawful: bool, answer: &Answer) -> bool
-    ensures { result ≡ (lawful && taken answer.now) }
+/// Whether the day's state took a call, by what it was answered.
+fn is_taken(answer: &Answer) -> bool
+    ensures { result ≡ taken answer.now }
 {
-    match answer {
-        Answer::Unlawful => false,
-        _ => lawful,
-    }
-}
-
-/// Writes an answer into its place.
-fn keep(answers: &mut [Answer], i: usize, answer: Answer)
-    requires { i < length answers.old }
-    ensures { answers.new ≡ slice_set answers.old i answer }
-{
-    answers[i] = answer;
+    !matches!(answer, Answer::Unlawful)
 }
 
 /// Opens a day on a book, whatever stood there before, does the calls one after another, and writes
@@ -63,11 +52,11 @@ pub fn run_day<B: LoadBook + Drop>(
     }
     let mut day = AnyDay::OpenInitial(Day::open(draft, book));
     let mut lawful = true;
-    for i in 0..calls.len() {
-        let (next, answer) = day.step(&calls[i]);
+    for (i, call) in calls.iter().enumerate() {
+        let (next, answer) = day.step(call);
         day = next;
-        lawful = still_lawful(lawful, &answer);
-        keep(answers, i, answer);
+        lawful &= is_taken(&answer);
+        answers[i] = answer;
     }
     Ok(Run { day, lawful })
 }

@@ -1,4 +1,4 @@
-pub mod Wrote
+pub mod Appending
 pub mod Pieces
 pub mod Listing
 pub mod Passing

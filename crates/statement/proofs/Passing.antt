@@ -2,7 +2,7 @@
 use Rattle.std.proofs.Common.{◌≡◌, List, [], ◌∷◌, ℤ, w64, SFits, to_z, of_z}
 use Rattle.std.proofs.lemmas.Int.{to_z-of_z}
 
-abbrev passed : ℤ → ℤ
+abbrev pub passed : ℤ → ℤ
 passed z = to_z w64 (of_z w64 z)
 
 pub two_passed : (a b a' b' : ℤ) → SFits w64 a → SFits w64 b → a ≡ a' → b ≡ b' → ◌≡◌ {A = List ℤ} (passed a ∷ passed b ∷ []) (a' ∷ b' ∷ [])

@@ -1,8 +1,11 @@
 -- Digits, fields and lines: their steps, and how many bytes they have. Assumes nothing.
-use Rattle.std.proofs.Common.{◌≡◌, ℕ, zero, suc, ◌+◌, ◌/◌, ◌%◌, ◌^◌, ◌<◌, ◌≤◌, eqb, List, [], ◌∷◌, ◌++◌, map, length, get_or, take, drop, ℤ, pos, negsuc, nat_abs, ◌≤ℤ◌, ◌<ℤ◌, sym, refl, ap, ◌∙◌, subst, ⊎_elim, append_assoc, add-one, arith, length-append}
-use borrow.Author.Differences.{ints}
+use Rattle.std.proofs.Common.{◌≡◌, ℕ, zero, suc, ◌+◌, ◌/◌, ◌%◌, ◌^◌, ◌<◌, ◌≤◌, eqb, List, [], ◌∷◌, ◌++◌, map, length, get_or, take, drop, ℤ, pos, negsuc, nat_abs, ◌≤ℤ◌, ◌<ℤ◌, sym, refl, ap, ◌∙◌, subst, ⊎_elim, append_assoc, add-one, arith, length-append, w64, SFits, to_z, of_z}
+use borrow.Author.Differences.{ints, abs_is}
 use lib.ListN.{length-map}
 use Rattle.std.specs.Int.Digits.{digits_with_fuel, digits_of}
+use Rattle.std.specs.Fmt.{decimal, signed_decimal}
+use Rattle.std.proofs.lemmas.Fmt.{decimal_digit, decimal-digits_of}
+use Rattle.std.proofs.lemmas.Int.{to_z-of_z}
 use Rattle.std.proofs.lemmas.Int.Digits.{digits_of_step, length-digits_of-le}
 use Rattle.std.proofs.lemmas.List.{map-append, take_more, take-append-drop, append-nil}
 use Rattle.std.proofs.lemmas.Bool.{cond-true, cond-false, cond_both, cases_eq, eq-eqb, ne_eqb}
@@ -70,6 +73,22 @@ pub numeral_above : (z : ℤ) → pos 0 ≤ℤ z → numeral z ≡ unsigned (nat
 unfolding numeral
 numeral_above (pos n) h = refl
 numeral_above (negsuc n) h = absurd (omega (arith, ints))
+
+-- what the library prints of a number, read from its bits, is its numeral
+unsigned_printed : (n : ℕ) → n < 2 ^ 64 → unsigned n ≡ decimal n
+unsigned_printed n h =
+    ⊎_elim (λ (e : n ≡ 0). unsigned_zero n e ∙ sym (ap decimal e ∙ decimal_digit 0 (omega arith)))
+    (λ (ne : n ≡ 0 → ⊥). unsigned_above n (omega arith) ∙ places_are n ∙ sym (decimal-digits_of n (omega arith) h))
+    (cases_eq n 0)
+
+signed_printed : (z : ℤ) → nat_abs z < 2 ^ 64 → signed_decimal z ≡ numeral z
+unfolding numeral
+signed_printed (pos n) h = sym (unsigned_printed n h)
+signed_printed (negsuc n) h = ap (λ (xs : List ℕ). 45 ∷ xs) (sym (unsigned_printed (suc n) h))
+
+pub numeral_printed : (z : ℤ) → SFits w64 z → signed_decimal (to_z w64 (of_z w64 z)) ≡ numeral z
+numeral_printed z fits =
+    ap signed_decimal (to_z-of_z w64 z fits) ∙ signed_printed z (omega (arith, ints, abs_is z, fits.sfits))
 
 -- ---- lines
 pub fields_append : (ms ns : List ℤ) → fields (ms ++ ns) ≡ fields ms ++ fields ns

@@ -1,17 +1,23 @@
 -- What the program writes into a list of bytes. Assumes nothing.
-use Rattle.std.specs.Prelude.{◌≡◌, ℕ, ◌+◌, cond, List, ◌++◌, length, take, drop, ℤ, pos, Some, None, Option, int_lt, unsigned_abs}
+use Rattle.std.specs.Prelude.{◌≡◌, ℕ, ◌+◌, ◌≤◌, cond, List, ◌++◌, length, take, drop, ℤ, pos, Some, None, Option, int_lt, unsigned_abs}
 use Rattle.refusal.specs.declared.Refusal.{Refusal}
 use Rattle.refusal.specs.declared.Refusal.TheVariants.{NoTotal}
 use Rattle.roll.specs.declared.row.Row.{Row}
 use Rattle.split.specs.Parts.{parts_of}
 use Rattle.book.specs.Tables.{cell}
 use Rattle.balance.specs.declared.settled.Balance.{Balance}
+use Rattle.statement.specs.declared.page.Page.{Page}
 use Rattle.statement.specs.Statement.{text_of}
 
--- a piece went into old at a place, nothing else changed, and end is the place behind it
-pub record Wrote (old : List ℕ) (start : ℕ) (piece new : List ℕ) (end : ℕ) : Type 0 where
-  pub text : new ≡ take start old ++ (piece ++ drop (start + length piece) old)
-  pub ends : end ≡ start + length piece
+-- a piece has room behind what is written
+abbrev pub Fits : Page → List ℕ → Type 0
+Fits page piece = page.at + length piece ≤ length page.text.now
+
+-- a piece went behind what was written, and nothing else of the list changed
+pub record Appends (old : Page) (piece : List ℕ) (new : Page) : Type 0 where
+  pub list : new.text.ghost_name ≡ old.text.ghost_name
+  pub text : new.text.now ≡ take old.at old.text.now ++ (piece ++ drop (old.at + length piece) old.text.now)
+  pub ends : new.at ≡ old.at + length piece
 
 -- ---- what a balance holds
 

@@ -30,9 +30,7 @@ loop-i-preserved g c =
     let more : SoFar g.B.LoadBook setting start calls (set answers i c.step-next.result.1) c.step-next.result.0 (c.loop-i.lawful && taken c.step-next.result.1) (i + 1) =
     so_far_more g.B.LoadBook calls setting start answers c.loop-i.day c.loop-i.lawful i (Entry (Post 0 0 0)) c.loop-i.invariant c.loop-i-test.true place
     c.step-next.result.0 c.step-next.result.1 c.step-next.ensures.answer c.step-next.ensures.course c.step-next.ensures.setting in
-    let told : SoFar g.B.LoadBook setting start calls (set answers i c.step-next.result.1) c.step-next.result.0 c.still_lawful-lawful.result (i + 1) =
-    subst (λ (b : Bool). SoFar g.B.LoadBook setting start calls (set answers i c.step-next.result.1) c.step-next.result.0 b (i + 1)) (sym c.still_lawful-lawful.ensures) more in
-    subst (λ (x : List Answer). SoFar g.B.LoadBook setting start calls x c.step-next.result.0 c.still_lawful-lawful.result (i + 1)) (sym c.keep.ensures) told
+    subst (λ (b : Bool). SoFar g.B.LoadBook setting start calls (set answers i c.step-next.result.1) c.step-next.result.0 b (i + 1)) (ap (λ (b : Bool). c.loop-i.lawful && b) (sym c.is_taken-lawful.ensures)) more
 
 pub returns : goal.returns
 returns g c =

@@ -1,9 +1,0 @@
-use Rattle.std.proofs.Common.{◌≡◌, false, get_or, None}
-use Rattle.roll.specs.Entries.{rows_of}
-use Rattle.balance.specs.Balance.{belongs}
-use Rattle.statement.specs.Statement.{some}
-use Rattle.statement.proofs.listed.has_pair.Given as goal
-
--- no segment below has it
-abbrev pub invariant-loop-segment : goal.invariant-loop-segment
-invariant-loop-segment l = some (λ s. belongs (get_or (rows_of l.roll) s None) l.qse l.point) l.segment ≡ false
