@@ -35,7 +35,7 @@ fn row_of(code: LossCode) -> Option<usize>
 fn code_of_letter(letter: u8) -> Option<LossCode>
     ensures { result ≡ code_of letter }
 {
-    LossCode::from_byte(letter)
+    LossCode::try_from(letter).ok()
 }
 
 /// The row of the table that a letter names, if it is one of A to E.
