@@ -1,10 +1,8 @@
-use Rattle.std.proofs.Common.{◌<◌, ◌≤◌, map, length, get_or, pos, nat_abs, sym, ◌∙◌, arith, w64, SFits, rules}
+use Rattle.std.proofs.Common.{◌<◌, ◌≤◌, map, length, get_or, pos, nat_abs, sym, ◌∙◌, arith}
 use lib.ListN.{length-map}
 use borrow.Author.Differences.{ints}
-use Rattle.std.proofs.lemmas.List.Edits.{fill_by_more}
 use Rattle.std.proofs.ByRecursion.{All-get_or}
 use Rattle.std.proofs.lemmas.List.{ext_get_or, get_or-map}
-use Rattle.std.proofs.lemmas.Int.{to_z-of_z}
 use Rattle.profile.proofs.Limits.{all_up_to, plain_within, plain_part}
 use Rattle.profile.proofs.copy_parts.Goals as goal
 

@@ -1,7 +1,6 @@
 use Rattle.std.proofs.Common.{◌<◌, map, length, nat_abs, sym, ◌∙◌, arith}
-use lib.ListN.{length-map}
 use borrow.Author.Differences.{ints}
-use Rattle.profile.proofs.Limits.{up_to_over, up_to_more, up_to_end, plain_within, plain_part}
+use Rattle.profile.proofs.Limits.{up_to_over, up_to_more, plain_within, plain_part}
 use Rattle.profile.proofs.postable.Goals as goal
 
 pub returns-then-part-gt-QUARTER_HOUR_LIMIT : goal.returns-then-part-gt-QUARTER_HOUR_LIMIT
@@ -19,8 +18,3 @@ loop-part-preserved c =
     let within : i < length ps = omega arith in
     let plain = plain_part ps i within c.requires in
     sym (up_to_more 1000000 (map nat_abs ps) i (plain_within ps i within c.requires) (omega (arith, ints, plain))) ∙ c.loop-part.invariant
-
-pub returns : goal.returns
-returns c =
-    let ps = c.args.parts.now in
-    sym (sym c.loop-part.invariant ∙ up_to_end 1000000 (map nat_abs ps) c.loop-part.part-index (simp length-map (omega arith)))
