@@ -1,6 +1,6 @@
 -- Whether one of several holds. Assumes nothing.
-use Rattle.std.proofs.Common.{◌≡◌, ℕ, zero, suc, ◌<◌, ◌≤◌, Bool, true, false, ◌||◌, List, [], ◌∷◌, length, get_or, take, None, Option, sym, refl, ap, ◌∙◌, subst, ⊎_elim, arith}
-use Rattle.std.proofs.lemmas.Bool.{cases_eq, or_left, or_right, or_parts}
+use Rattle.std.proofs.Common.{◌≡◌, ℕ, zero, suc, ◌<◌, ◌≤◌, Bool, false, ◌||◌, List, [], ◌∷◌, length, get_or, take, None, Option, sym, refl, ap, ◌∙◌, subst, ⊎_elim, arith}
+use Rattle.std.proofs.lemmas.Bool.{cases_eq, or_parts}
 use Rattle.std.specs.List.{list_any}
 use Rattle.std.proofs.Math.Bool.{or-false}
 use Rattle.std.proofs.Math.Seq.{take-suc}
@@ -19,13 +19,6 @@ taken f rows (suc n) h =
 
 pub some_listed : (f : Option Row → Bool) (rows : List (Option Row)) → length rows ≡ 64 → list_any f rows ≡ some (λ s. f (get_or rows s None)) 64
 some_listed f rows long = ap (list_any f) (sym (take_all 64 rows (omega arith))) ∙ taken f rows 64 (omega arith)
-
-pub some_found : (f : ℕ → Bool) (k n : ℕ) → k < n → f k ≡ true → some f n ≡ true
-unfolding some
-some_found f k zero h e = absurd (omega arith)
-some_found f k (suc n) h e =
-    ⊎_elim (λ (same : k ≡ n). or_right (some f n) (f n) (subst (λ (m : ℕ). f m ≡ true) same e))
-    (λ (ne : k ≡ n → ⊥). or_left (some f n) (f n) (some_found f k n (omega arith) e)) (cases_eq k n)
 
 -- where none holds, each one fails
 pub some_failed : (f : ℕ → Bool) (k n : ℕ) → k < n → some f n ≡ false → f k ≡ false

@@ -1,14 +1,14 @@
 -- Digits, fields and lines: their steps, and how many bytes they have. Assumes nothing.
-use Rattle.std.proofs.Common.{◌≡◌, ℕ, zero, suc, ◌+◌, ◌/◌, ◌%◌, ◌^◌, ◌<◌, ◌≤◌, eqb, List, [], ◌∷◌, ◌++◌, map, length, get_or, take, drop, ℤ, pos, negsuc, nat_abs, ◌≤ℤ◌, ◌<ℤ◌, sym, refl, ap, ◌∙◌, subst, ⊎_elim, append_assoc, add-one, arith, length-append, w64, SFits, to_z, of_z}
+use Rattle.std.proofs.Common.{◌≡◌, ℕ, zero, suc, ◌+◌, ◌/◌, ◌%◌, ◌^◌, ◌<◌, ◌≤◌, eqb, List, [], ◌∷◌, ◌++◌, map, length, get_or, take, ℤ, pos, negsuc, nat_abs, sym, refl, ap, ◌∙◌, subst, ⊎_elim, append_assoc, add-one, arith, length-append, w64, SFits, to_z, of_z}
 use borrow.Author.Differences.{ints, abs_is}
-use lib.ListN.{length-map}
+use lib.Signed.{mag}
 use Rattle.std.specs.Int.Digits.{digits_with_fuel, digits_of}
 use Rattle.std.specs.Fmt.{decimal, signed_decimal}
-use Rattle.std.proofs.lemmas.Fmt.{decimal_digit, decimal-digits_of}
+use Rattle.std.proofs.lemmas.Fmt.{decimal_digit, decimal-digits_of, length-decimal-le, length_signed_le}
 use Rattle.std.proofs.lemmas.Int.{to_z-of_z}
-use Rattle.std.proofs.lemmas.Int.Digits.{digits_of_step, length-digits_of-le}
-use Rattle.std.proofs.lemmas.List.{map-append, take_more, take-append-drop, append-nil}
-use Rattle.std.proofs.lemmas.Bool.{cond-true, cond-false, cond_both, cases_eq, eq-eqb, ne_eqb}
+use Rattle.std.proofs.Math.Seq.{take-suc}
+use Rattle.std.proofs.lemmas.List.{map-append, take_all, append-nil}
+use Rattle.std.proofs.lemmas.Bool.{cond-true, cond-false, cases_eq, eq-eqb, ne_eqb}
 use Rattle.balance.specs.Totals.{count}
 use Rattle.statement.specs.Text.{places_in, places, unsigned, numeral, fields, line, lines}
 
@@ -28,19 +28,6 @@ pub places_are : (n : ℕ) → places n ≡ map (λ d. 48 + d) (digits_of 10 n)
 unfolding places
 places_are n = places_in_are n n
 
-pub places_none : places 0 ≡ []
-places_none = places_are 0
-
-pub places_step : (n : ℕ) → 0 < n → places n ≡ places (n / 10) ++ ((48 + n % 10) ∷ [])
-places_step n h =
-    places_are n ∙ ap (map (λ d. 48 + d)) (digits_of_step 10 n (omega arith) h)
-    ∙ map-append (λ d. 48 + d) (digits_of 10 (n / 10)) (n % 10 ∷ [])
-    ∙ ap (λ (xs : List ℕ). xs ++ ((48 + n % 10) ∷ [])) (sym (places_are (n / 10)))
-
-places_most : (k n : ℕ) → n < 10 ^ k → length (places n) ≤ k
-places_most k n h =
-    omega (arith, ap length (places_are n), length-map (digits_of 10 n) (λ d. 48 + d), length-digits_of-le 10 k n (omega arith) h)
-
 -- ---- numbers
 pub unsigned_zero : (n : ℕ) → n ≡ 0 → unsigned n ≡ 48 ∷ []
 unfolding unsigned
@@ -49,30 +36,6 @@ unsigned_zero n e = cond-true (eqb n 0) (48 ∷ []) (places n) (eq-eqb n 0 e)
 pub unsigned_above : (n : ℕ) → 0 < n → unsigned n ≡ places n
 unfolding unsigned
 unsigned_above n h = cond-false (eqb n 0) (48 ∷ []) (places n) (ne_eqb n 0 (λ e. omega arith))
-
-unsigned_most : (k n : ℕ) → 0 < k → n < 10 ^ k → length (unsigned n) ≤ k
-unfolding unsigned
-unsigned_most k n some h =
-    cond_both (eqb n 0) (48 ∷ []) (places n) (λ xs. length xs ≤ k) (λ _. omega arith) (λ _. places_most k n h)
-
-pub numeral_most : (k : ℕ) (z : ℤ) → 0 < k → nat_abs z < 10 ^ k → length (numeral z) ≤ k + 1
-unfolding numeral
-numeral_most k (pos n) some h = omega (arith, unsigned_most k n some h)
-numeral_most k (negsuc n) some h = omega (arith, unsigned_most k (suc n) some h)
-
-pub numeral_plain : (k n : ℕ) → 0 < k → n < 10 ^ k → length (numeral (pos n)) ≤ k
-unfolding numeral
-numeral_plain k n some h = unsigned_most k n some h
-
-pub numeral_below : (z : ℤ) → z <ℤ pos 0 → numeral z ≡ 45 ∷ unsigned (nat_abs z)
-unfolding numeral
-numeral_below (pos n) h = absurd (omega (arith, ints))
-numeral_below (negsuc n) h = refl
-
-pub numeral_above : (z : ℤ) → pos 0 ≤ℤ z → numeral z ≡ unsigned (nat_abs z)
-unfolding numeral
-numeral_above (pos n) h = refl
-numeral_above (negsuc n) h = absurd (omega (arith, ints))
 
 -- what the library prints of a number, read from its bits, is its numeral
 unsigned_printed : (n : ℕ) → n < 2 ^ 64 → unsigned n ≡ decimal n
@@ -90,43 +53,31 @@ pub numeral_printed : (z : ℤ) → SFits w64 z → signed_decimal (to_z w64 (of
 numeral_printed z fits =
     ap signed_decimal (to_z-of_z w64 z fits) ∙ signed_printed z (omega (arith, ints, abs_is z, fits.sfits))
 
+-- how many bytes a number has, and one that is not below zero
+pub mag_most : (z : ℤ) → mag z ≤ nat_abs z
+mag_most (pos n) = omega arith
+mag_most (negsuc n) = omega arith
+
+pub numeral_most : (k : ℕ) (z : ℤ) → mag z + 1 < 10 ^ k → mag z < 2 ^ 63 → length (numeral z) ≤ k + 1
+numeral_most k z h fits = omega (arith, ap length (signed_printed z (small z fits)), length_signed_le k z h fits)
+  where
+    small : (y : ℤ) → mag y < 2 ^ 63 → nat_abs y < 2 ^ 64
+    small (pos n) f = omega arith
+    small (negsuc n) f = omega arith
+
+pub numeral_plain : (k n : ℕ) → 0 < k → n < 10 ^ k → n < 2 ^ 63 → length (numeral (pos n)) ≤ k
+unfolding numeral
+numeral_plain k n some h fits = omega (arith, ap length (unsigned_printed n (omega arith)), length-decimal-le k n some h (omega arith))
+
 -- ---- lines
-pub fields_append : (ms ns : List ℤ) → fields (ms ++ ns) ≡ fields ms ++ fields ns
+fields_append : (ms ns : List ℤ) → fields (ms ++ ns) ≡ fields ms ++ fields ns
 unfolding fields
 fields_append [] ns = refl
 fields_append (m ∷ ms) ns =
     ap (λ (xs : List ℕ). 32 ∷ (numeral m ++ xs)) (fields_append ms ns)
     ∙ ap (λ (xs : List ℕ). 32 ∷ xs) (sym (append_assoc (numeral m) (fields ms) (fields ns)))
 
-pub fields_none : fields [] ≡ []
-unfolding fields
-fields_none = refl
-
-pub fields_more : (ns : List ℤ) (i : ℕ) → i < length ns → fields (take (i + 1) ns) ≡ fields (take i ns) ++ (32 ∷ numeral (get_or ns i (pos 0)))
-unfolding fields
-fields_more ns i h =
-    ap fields (take_more ns i (pos 0) h) ∙ fields_append (take i ns) (get_or ns i (pos 0) ∷ [])
-    ∙ ap (λ (xs : List ℕ). fields (take i ns) ++ (32 ∷ xs)) (append-nil (numeral (get_or ns i (pos 0))))
-
--- a front has no more bytes than the whole
-pub fields_front : (ns : List ℤ) (i : ℕ) → length (fields (take i ns)) ≤ length (fields ns)
-fields_front ns i =
-    let split = ap fields (sym (take-append-drop i ns)) ∙ fields_append (take i ns) (drop i ns) in
-    omega (arith, ap length split, length-append (fields (take i ns)) (fields (drop i ns)))
-
-pub line_length : (letter : ℕ) (ns : List ℤ) → length (line letter ns) ≡ length (fields ns) + 2
-unfolding line
-line_length letter ns = omega (arith, length-append (fields ns) (10 ∷ []))
-
-pub line_is : (letter : ℕ) (ns : List ℤ) → line letter ns ≡ (letter ∷ []) ++ (fields ns ++ (10 ∷ []))
-unfolding line
-line_is letter ns = refl
-
 -- ---- texts one after another
-pub lines_none : (g : ℕ → List ℕ) → lines g 0 ≡ []
-unfolding lines
-lines_none g = refl
-
 pub lines_more : (g : ℕ → List ℕ) (n : ℕ) → lines g (n + 1) ≡ lines g n ++ g n
 unfolding lines
 lines_more g n = ap (lines g) (add-one n)
@@ -151,6 +102,23 @@ unfolding lines
 lines_same g h zero e = refl
 lines_same g h (suc n) e =
     ap (λ (xs : List ℕ). xs ++ g n) (lines_same g h n (λ k l. e k (omega arith))) ∙ ap (λ (xs : List ℕ). lines h n ++ xs) (e n (omega arith))
+
+-- the fields of a line are such texts
+abbrev pub field : List ℤ → ℕ → List ℕ
+field ns i = 32 ∷ numeral (get_or ns i (pos 0))
+
+fields_taken : (ns : List ℤ) (n : ℕ) → n ≤ length ns → fields (take n ns) ≡ lines (field ns) n
+unfolding fields lines
+fields_taken ns zero h = refl
+fields_taken ns (suc n) h =
+    ap fields (take-suc ns n (pos 0) h) ∙ fields_append (take n ns) (get_or ns n (pos 0) ∷ [])
+    ∙ ap (λ (xs : List ℕ). fields (take n ns) ++ (32 ∷ xs)) (append-nil (numeral (get_or ns n (pos 0))))
+    ∙ ap (λ (xs : List ℕ). xs ++ field ns n) (fields_taken ns n (omega arith))
+
+pub line_is : (letter : ℕ) (ns : List ℤ) → line letter ns ≡ (letter ∷ []) ++ (lines (field ns) (length ns) ++ (10 ∷ []))
+unfolding line
+line_is letter ns =
+    ap (λ (xs : List ℕ). letter ∷ (xs ++ (10 ∷ []))) (ap fields (sym (take_all (length ns) ns (omega arith))) ∙ fields_taken ns (length ns) (omega arith))
 
 -- ---- how long a line is
 pub line_two : (letter : ℕ) (a b : ℤ) → length (line letter (a ∷ b ∷ [])) ≡ length (numeral a) + length (numeral b) + 4

@@ -9,7 +9,7 @@ use roll::Roll;
 pub(crate) fn has_pair(roll: &Roll, qse: u8, point: u8) -> bool
     ensures { result ≡ lists_pair (rows_of roll.now) qse point }
 {
-    roll.rows().iter().any(|row| matches!(row, Some(row) if qse == row.qse && point == row.point))
+    roll.rows().iter().any(|row| row.is_some_and(|row| qse == row.qse && point == row.point))
 }
 
 /// Whether a segment on the roll has the QSE.
@@ -18,5 +18,5 @@ pub(crate) fn has_qse(roll: &Roll, qse: u8) -> bool
 {
     roll.rows()
         .iter()
-        .any(|row| matches!(row, Some(row) if qse == row.qse))
+        .any(|row| row.is_some_and(|row| qse == row.qse))
 }

@@ -1,5 +1,5 @@
 // Bytes, numbers and lines, written one behind another into a lent list.
-ghost use Rattle.std.specs.Prelude.{◌+◌, ◌≤◌, length};
+ghost use Rattle.std.specs.Prelude.{◌+◌, ◌≤◌, ◌∷◌, length};
 ghost use Rattle.refusal.specs.Table.{answer_of};
 ghost use Rattle.statement.specs.Statement.{answer_line};
 ghost use Rattle.statement.specs.Text.{numeral, line};
@@ -25,10 +25,12 @@ impl Page<'_> {
         self.at = end;
     }
 
-    fn put_number(&mut self, n: i64)
-        requires { Fits self.old (numeral n) }
-        ensures { Appends self.old (numeral n) self.new }
+    /// A space and a number.
+    fn put_field(&mut self, n: i64)
+        requires { Fits self.old (32 ∷ numeral n) }
+        ensures { Appends self.old (32 ∷ numeral n) self.new }
     {
+        self.put(b" ");
         self.put(Buffer::new().format(n).as_bytes());
     }
 
@@ -39,8 +41,7 @@ impl Page<'_> {
     {
         self.put(&[letter]);
         for n in numbers {
-            self.put(b" ");
-            self.put_number(*n);
+            self.put_field(*n);
         }
         self.put(b"\n");
     }

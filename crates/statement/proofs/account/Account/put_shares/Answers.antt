@@ -1,5 +1,4 @@
 use Rattle.std.proofs.Common.{◌≡◌, ℕ, ◌<◌, ◌≤◌, true, List, [], ◌∷◌, length, get_or, ℤ, pos, Option, sym, ap, ◌∙◌, arith, w64, SFits, rules, to_z}
-use borrow.Author.Differences.{ints, abs_is}
 use Rattle.std.proofs.lemmas.Bool.{cond-true, cond-false}
 use Rattle.std.proofs.lemmas.Int.{to_z-of_z}
 use Rattle.roll.specs.declared.row.Row.{Row}
@@ -19,7 +18,7 @@ loop-qse-init c = record { lines_below = appends_none c.args.page.now; most = om
 
 handed_most : (qse : ℕ) (z : ℤ) → qse < 16 → SFits w64 z → length (line 83 (pos qse ∷ z ∷ [])) ≤ 26
 handed_most qse z h fits =
-    omega (arith, line_two 83 (pos qse) z, numeral_plain 2 qse (omega arith) (omega arith), numeral_most 19 z (omega arith) (omega (arith, ints, abs_is z, fits.sfits)))
+    omega (arith, line_two 83 (pos qse) z, numeral_plain 2 qse (omega arith) (omega arith) (omega arith), numeral_most 19 z (omega (arith, fits.sfits)) fits.sfits)
 
 -- the line of a QSE as its numbers are handed over, and its most bytes
 handed : (rows : List (Option Row)) (shares : List ℤ) (qse : ℕ) → qse < 16 → SFits w64 (get_or shares qse (pos 0)) → true ≡ lists_qse rows qse → (line 83 (to_z w64 qse ∷ passed (get_or shares qse (pos 0)) ∷ []) ≡ share_line rows shares qse) × (length (share_line rows shares qse) ≤ 26)
