@@ -1,13 +1,15 @@
 -- What a record and the plain row that it was read from have to do with each other. Assumes nothing.
-use Rattle.std.proofs.Common.{◌≡◌, Bool, true, false, cond, eqb, is_some, Some, None, Option, sym, refl, ap, ◌∙◌}
-use Rattle.std.specs.Option.{option_map}
+use Rattle.std.proofs.Common.{◌≡◌, Bool, true, false, cond, eqb, Some, None, Ok, Err, sym, refl, ap, ◌∙◌}
 use Rattle.std.proofs.lemmas.Bool.{cond-true}
+use Rattle.refusal.specs.declared.Refusal.{Refusal}
+use Rattle.refusal.specs.declared.Refusal.TheVariants.{SegmentField}
 use Rattle.roll.specs.declared.row.LossCode.{LossCode}
 use Rattle.roll.specs.declared.row.LossCode.TheVariants as code
 use Rattle.roll.specs.declared.row.Meter.{Meter}
 use Rattle.roll.specs.declared.row.Meter.TheVariants.{Interval, Profiled}
 use Rattle.roll.specs.declared.row.Row.{Row}
 use Rattle.roll.specs.declared.segment.Segment.{Segment}
+use Rattle.roll.specs.Decoding.{DecodesRow}
 use Rattle.roll.specs.Ranges.{in_range}
 use Rattle.roll.specs.Marks.{letter_of, meter_mark}
 use Rattle.roll.specs.Segments.{row_of, weight_of, meter_weight, plain_weight, weight_of_row}
@@ -17,9 +19,12 @@ pub read_back : (s : Segment) (row : Row) → Some (row_of s) ≡ cond (in_range
 read_back s row = elim (in_range row) as (λ b. Some (row_of s) ≡ cond b (Some row) None → (b ≡ true) × (row_of s ≡ row)) [ true ↦ λ e. (refl, cc) | false ↦ λ e. (cc, cc) ]
 
 -- a row that makes a record is in range
-pub read_in_range : (o : Option Segment) (row : Row) → option_map row_of o ≡ cond (in_range row) (Some row) None → is_some o ≡ true → in_range row ≡ true
-read_in_range None row e h = cc
-read_in_range (Some s) row e h = (read_back s row e).0
+pub read_in_range : (s : Segment) (row : Row) → DecodesRow row (Ok s) → in_range row ≡ true
+read_in_range s row d = (read_back s row d.back).0
+
+-- and one that makes none is out of range, which is why
+pub out_of_range : (e : Refusal) (row : Row) → DecodesRow row (Err e) → (in_range row ≡ false) × (e ≡ SegmentField)
+out_of_range e row d = elim (in_range row) as (λ b. Some e ≡ cond b None (Some SegmentField) → (b ≡ false) × (e ≡ SegmentField)) [ true ↦ λ h. cc | false ↦ λ h. (refl, cc) ] d.refused
 
 -- the rule on plain marks gives the weight that the record's cases give
 by_cases : (noie : Bool) (m : Meter) (k : LossCode) →

@@ -1,4 +1,5 @@
 pub mod Days
+pub mod Decoding
 pub mod Drafts
 pub mod Entries
 pub mod Marks

@@ -1,7 +1,7 @@
 // A day before its first reading: its length, and a roll that is still being filled.
-ghost use Rattle.std.specs.Prelude.{◌≡◌, ℕ, true, false, is_some, is_ok, if◌then◌else◌, Some, None, slice_index_or, slice_set};
-ghost use Rattle.std.specs.Option.{option_map};
-ghost use Rattle.roll.specs.Days.{length_of, quarters_of};
+ghost use Rattle.std.specs.Prelude.{◌≡◌, ℕ, true, false, is_ok, if◌then◌else◌, Some, None, slice_index_or, slice_set};
+ghost use Rattle.roll.specs.Decoding.{DecodesLength};
+ghost use Rattle.roll.specs.Days.{quarters_of};
 ghost use Rattle.roll.specs.Drafts.{day_of, roll_of, contents_in, begun};
 ghost use Rattle.roll.specs.Entries.{rows_of, sites_of, segment_entry, site_entry};
 
@@ -17,20 +17,23 @@ pub enum DayLength {
     Long,
 }
 
-impl DayLength {
-    /// The day of so many quarter hours, if there is one.
-    pub fn from_quarter_hours(n: u8) -> Option<DayLength>
-        ensures length { result ≡ length_of n }
-        ensures back { option_map quarters_of result ≡ (if is_some result then Some n else None) }
-    {
-        match n {
-            92 => Some(DayLength::Short),
-            96 => Some(DayLength::Normal),
-            100 => Some(DayLength::Long),
-            _ => None,
+/// The day of so many quarter hours, if there is one.
+impl TryFrom<u8> for DayLength {
+    type Error = Refusal;
+
+    ghost try_from_gives = { DecodesLength };
+
+    fn try_from(quarter_hours: u8) -> Result<DayLength, Refusal> {
+        match quarter_hours {
+            92 => Ok(DayLength::Short),
+            96 => Ok(DayLength::Normal),
+            100 => Ok(DayLength::Long),
+            _ => Err(Refusal::DayLength),
         }
     }
+}
 
+impl DayLength {
     pub fn quarter_hours(&self) -> u8
         ensures { result ≡ quarters_of self.now }
     {
@@ -54,13 +57,10 @@ impl Draft {
     pub fn begin(quarter_hours: u8) -> Result<Draft, Refusal>
         ensures { contents_in result ≡ begun quarter_hours }
     {
-        match DayLength::from_quarter_hours(quarter_hours) {
-            Some(length) => Ok(Draft {
-                length,
-                roll: Roll::empty(),
-            }),
-            None => Err(Refusal::DayLength),
-        }
+        Ok(Draft {
+            length: DayLength::try_from(quarter_hours)?,
+            roll: Roll::empty(),
+        })
     }
 
     pub fn length(&self) -> DayLength

@@ -1,7 +1,9 @@
 // What the roll says of one load segment, as plain numbers, and the two named kinds among them.
-ghost use Rattle.std.specs.Prelude.{◌≡◌, is_some, if◌then◌else◌, Some, None};
-ghost use Rattle.std.specs.Option.{option_map};
-ghost use Rattle.roll.specs.Marks.{code_of, letter_of, meter_of};
+ghost use Rattle.std.specs.Prelude.{◌≡◌};
+ghost use Rattle.roll.specs.Marks.{letter_of};
+ghost use Rattle.roll.specs.Decoding.{DecodesLetter, DecodesMark};
+
+use refusal::Refusal;
 
 /// The loss code of a segment: A to E stand for a distribution loss factor each, T for a segment
 /// served at transmission voltage.
@@ -15,23 +17,26 @@ pub enum LossCode {
     T,
 }
 
-impl LossCode {
-    /// The code of a letter, if it is one of the six.
-    pub fn from_byte(b: u8) -> Option<LossCode>
-        ensures code { result ≡ code_of b }
-        ensures letter { option_map letter_of result ≡ (if is_some result then Some b else None) }
-    {
-        match b as char {
-            'A' => Some(LossCode::A),
-            'B' => Some(LossCode::B),
-            'C' => Some(LossCode::C),
-            'D' => Some(LossCode::D),
-            'E' => Some(LossCode::E),
-            'T' => Some(LossCode::T),
-            _ => None,
+/// The code of a letter, if it is one of the six.
+impl TryFrom<u8> for LossCode {
+    type Error = Refusal;
+
+    ghost try_from_gives = { DecodesLetter };
+
+    fn try_from(letter: u8) -> Result<LossCode, Refusal> {
+        match letter as char {
+            'A' => Ok(LossCode::A),
+            'B' => Ok(LossCode::B),
+            'C' => Ok(LossCode::C),
+            'D' => Ok(LossCode::D),
+            'E' => Ok(LossCode::E),
+            'T' => Ok(LossCode::T),
+            _ => Err(Refusal::SegmentField),
         }
     }
+}
 
+impl LossCode {
     /// The letter's byte.
     pub fn letter(&self) -> u8
         ensures { result ≡ letter_of self.now }
@@ -55,15 +60,17 @@ pub enum Meter {
     Profiled,
 }
 
-impl Meter {
-    /// The kind of meter that a mark stands for: 0 interval, 1 profiled.
-    pub(crate) fn from_mark(mark: u8) -> Option<Meter>
-        ensures { result ≡ meter_of mark }
-    {
+/// The kind of meter that a mark stands for: 0 interval, 1 profiled.
+impl TryFrom<u8> for Meter {
+    type Error = Refusal;
+
+    ghost try_from_gives = { DecodesMark };
+
+    fn try_from(mark: u8) -> Result<Meter, Refusal> {
         match mark {
-            0 => Some(Meter::Interval),
-            1 => Some(Meter::Profiled),
-            _ => None,
+            0 => Ok(Meter::Interval),
+            1 => Ok(Meter::Profiled),
+            _ => Err(Refusal::SegmentField),
         }
     }
 }

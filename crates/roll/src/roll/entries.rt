@@ -22,33 +22,33 @@ impl Roll {
         }
     }
 
+    /// The row under each segment number, or none.
+    pub fn rows(&self) -> &[Option<Row>; 64]
+        ensures { result.now ≡ rows_of self.now }
+    {
+        &self.segments
+    }
+
     /// The row that stands under a segment's number.
     pub fn row(&self, number: u8) -> Option<Row>
         ensures row { result ≡ slice_index_or (rows_of self.now) number None }
         ensures range { ranged result ≡ true }
     {
-        if number <= 63 {
-            self.segments[number as usize]
-        } else {
-            None
-        }
+        *self.segments.get(usize::from(number))?
     }
 
     /// The record of the segment under a number.
     pub fn segment(&self, number: u8) -> Option<Segment>
         ensures { option_map row_of result ≡ slice_index_or (rows_of self.now) number None }
     {
-        match self.row(number) {
-            Some(row) => Segment::from_row(&row),
-            None => None,
-        }
+        Segment::try_from(&self.row(number)?).ok()
     }
 
     /// Whether a generation site is listed.
     pub fn has_site(&self, number: u8) -> bool
         ensures { result ≡ slice_index_or (sites_of self.now) number false }
     {
-        number <= 15 && self.sites[number as usize]
+        self.sites.get(usize::from(number)) == Some(&true)
     }
 
     /// Enters a segment's row under its number. A number that has a row keeps it.
@@ -62,9 +62,7 @@ impl Roll {
         if number > 63 {
             return Err(Refusal::SegmentNumber);
         }
-        if Segment::from_row(row).is_none() {
-            return Err(Refusal::SegmentField);
-        }
+        Segment::try_from(row)?;
         let mut segments = self.segments;
         if segments[number as usize].is_some() {
             return Err(Refusal::AlreadyOnRoll);

@@ -1,40 +1,37 @@
 // How a record is made from a plain row, what it says, and the weight that it gives a segment.
-ghost use Rattle.std.specs.Prelude.{◌≡◌, ◌≤◌, if◌then◌else◌, Some, None};
-ghost use Rattle.std.specs.Option.{option_map};
-ghost use Rattle.roll.specs.Ranges.{in_range};
-ghost use Rattle.roll.specs.Segments.{row_of, weight_of, weight_of_row};
+ghost use Rattle.std.specs.Prelude.{◌≡◌, ◌≤◌};
+ghost use Rattle.roll.specs.Decoding.{DecodesRow};
+ghost use Rattle.roll.specs.Segments.{weight_of, weight_of_row};
 
 use crate::row::{LossCode, Meter, Row};
 use crate::segment::Segment;
+use refusal::Refusal;
 
-impl Segment {
-    /// The record of a plain row, if each of its five numbers is in range.
-    pub fn from_row(row: &Row) -> Option<Segment>
-        ensures { option_map row_of result ≡ (if in_range row.now then Some row.now else None) }
-    {
+/// The record of a plain row, if each of its five numbers is in range.
+impl TryFrom<&Row> for Segment {
+    type Error = Refusal;
+
+    ghost try_from_gives = { λ row result. DecodesRow row.now result };
+
+    fn try_from(row: &Row) -> Result<Segment, Refusal> {
         if row.qse > 15 || row.point > 7 {
-            return None;
+            return Err(Refusal::SegmentField);
         }
-        let Some(code) = LossCode::from_byte(row.code) else {
-            return None;
-        };
-        let Some(meter) = Meter::from_mark(row.meter) else {
-            return None;
-        };
-        let noie = match row.noie {
-            0 => false,
-            1 => true,
-            _ => return None,
-        };
-        Some(Segment {
+        Ok(Segment {
             qse: row.qse,
             point: row.point,
-            code,
-            meter,
-            noie,
+            code: LossCode::try_from(row.code)?,
+            meter: Meter::try_from(row.meter)?,
+            noie: match row.noie {
+                0 => false,
+                1 => true,
+                _ => return Err(Refusal::SegmentField),
+            },
         })
     }
+}
 
+impl Segment {
     pub fn qse(&self) -> u8
         ensures field { result ≡ self.now.qse }
         ensures range { result ≤ 15 }
@@ -77,8 +74,5 @@ impl Segment {
 pub fn row_weight(row: &Row) -> Option<u8>
     ensures { result ≡ weight_of_row row.now }
 {
-    match Segment::from_row(row) {
-        Some(segment) => Some(segment.weight()),
-        None => None,
-    }
+    Some(Segment::try_from(row).ok()?.weight())
 }
