@@ -1,12 +1,13 @@
 -- When a balance has shares. Assumes nothing.
-use Rattle.std.proofs.Common.{◌≡◌, ℕ, Bool, true, false, cond, eqb, ℤ, pos, nat_abs, ◌<ℤ◌, is_ok, Some, None, Ok, Err, Option, Result, sym, refl, ap, ◌∙◌, arith}
+use Rattle.std.proofs.Common.{◌≡◌, ℕ, ◌<◌, Bool, true, false, cond, eqb, ℤ, pos, nat_abs, ◌<ℤ◌, is_ok, Some, None, Ok, Err, Option, Result, sym, refl, ap, ◌∙◌, arith}
 use lib.Signed.{lt_z}
 use borrow.Author.Differences.{ints, abs_is}
 use Rattle.std.proofs.lemmas.Bool.{cond-true, cond-false, eq-eqb, ne_eqb, and_left, false≢true}
+use Rattle.std.proofs.lemmas.Bool.Decides.{nat_tests}
 use Rattle.refusal.specs.declared.Refusal.{Refusal}
 use Rattle.refusal.specs.declared.Refusal.TheVariants.{ListLength, NoWeight, NoTotal}
 use Rattle.split.specs.Answer.{split_answer}
-use Rattle.balance.specs.Questions.{ok_unless, misfit}
+use Rattle.balance.specs.Questions.{ok_unless, misfit, nowhere}
 use Rattle.balance.specs.Totals.{or_else}
 
 pub positive_is : (gen : ℤ) → pos 0 <ℤ gen → lt_z (pos 0) gen ≡ true
@@ -23,6 +24,10 @@ shares_answered gen n m en em h =
     let shared : cond (lt_z (pos 0) gen) None (Some NoTotal) ≡ None = cond-true (lt_z (pos 0) gen) None (Some NoTotal) (positive_is gen h) in
     split
     ∙ sym (ap (λ (o : Option Refusal). ok_unless (or_else o (cond (lt_z (pos 0) gen) None (Some NoTotal))) tt) fits ∙ ap (λ (o : Option Refusal). ok_unless o tt) shared)
+
+-- a pair that was let through
+pub pair_is : (qse point : ℕ) (t : Unit {0}) → Ok t ≡ ok_unless (nowhere qse point) tt → (qse < 16) × (point < 8)
+pair_is qse point t h = (grind (arith, nat_tests), grind (arith, nat_tests))
 
 -- ---- one more thing to look at, where nothing else is amiss
 pub none_between : (a m r : Option Refusal) → or_else a r ≡ None → or_else a (or_else m r) ≡ m

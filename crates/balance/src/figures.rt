@@ -9,7 +9,6 @@ pub mod entering;
 #[derive(Clone, Copy)]
 pub struct Figures {
     table: [[Option<i32>; 100]; 16],
-    ghost sites: { length table ≡ 16 },
     ghost quarter_hours: { (k : ℕ) → k < 16 → length (slice_index_or table k []) ≡ 100 },
     ghost within: { (k q : ℕ) → unsigned_abs (unwrap_or (at table k q) (pos 0)) ≤ 10000000 },
 }

@@ -4,7 +4,7 @@ use Rattle.balance.specs.Gathering.{gross_at, quarter_of}
 use Rattle.balance.specs.Quarter.{Quarter, figure_of, site_fault, somebody}
 use Rattle.balance.specs.Settling.{Settled, sheet_in}
 use Rattle.balance.specs.Totals.{total, first_of}
-use Rattle.balance.proofs.Answering.{answers}
+use Rattle.balance.proofs.Answering.{early_is, answers}
 use Rattle.balance.proofs.questions.QuarterHour.balance.Goals as goal
 
 pub returns : goal.returns
@@ -20,5 +20,5 @@ returns g c =
     let read : to_z w64 (of_z w64 gen) ≡ gen = omega (arith, ints, made.1, abs_is gen) in
     let settled : Settled (sheet_in rows (to_z w64 (of_z w64 gen))) c.settle.result = c.settle.ensures in
     let there : is_some (first_of (somebody x.rows) 64) ≡ true = sym c.has_segment.ensures ∙ c.if-not-has_segment.false in
-    answers x roll.places.0 q c.if-self-gt99.false there loaded.2 made.2 roll.rows_in_range rows gen loaded.0 loaded.1 made.0 c.settle.result
+    answers x roll.places.0 q (early_is q _ c.in_ok-check_quarter_hour.ensures) there loaded.2 made.2 roll.rows_in_range rows gen loaded.0 loaded.1 made.0 c.settle.result
     (subst (λ (z : ℤ). Settled (sheet_in rows z) c.settle.result) read settled)
