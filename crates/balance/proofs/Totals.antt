@@ -1,6 +1,6 @@
 -- Laws of sums over the numbers below a limit. Assumes nothing.
-use Rattle.std.proofs.Common.{◌≡◌, ℕ, zero, suc, ◌+◌, ◌-◌, ◌*◌, ◌<◌, ◌≤◌, Bool, true, false, ◌||◌, cond, eqb, List, [], ◌∷◌, map, length, get_or, take, ℤ, pos, ◌+ℤ◌, nat_abs, ◌≤ℤ◌, is_some, Some, None, sum_by, Option, sym, refl, ap, ◌∙◌, subst, ⊎_elim, suc-mul, suc-add, zero-add, zero-mul, add-one, take_all, arith}
-use borrow.Author.Differences.{ints, abs_is}
+use Rattle.std.proofs.Common.{◌≡◌, ℕ, zero, suc, ◌+◌, ◌-◌, ◌*◌, ◌<◌, ◌≤◌, Bool, true, false, ◌||◌, cond, eqb, List, [], ◌∷◌, map, length, get_or, take, ℤ, pos, ◌+ℤ◌, ◌≤ℤ◌, is_some, Some, None, sum_by, Option, sym, refl, ap, ◌∙◌, subst, ⊎_elim, suc-mul, suc-add, zero-add, zero-mul, add-one, take_all, arith}
+use borrow.Author.Differences.{ints}
 use Rattle.std.specs.List.{range_with_len, list_any}
 use Rattle.std.proofs.lemmas.List.Folds.{list_any_more}
 use Rattle.std.proofs.lemmas.List.FromFn.{map-range_with_len_more}
@@ -101,12 +101,6 @@ count_places g f xs d (suc k) h e =
     subst (λ (m : ℕ). sum_by g (take m xs) ≡ count f k + f k) (add-one k) step
 
 -- ---- bounds
-pub total_within : (f : ℕ → ℤ) (m n : ℕ) → ((j : ℕ) → j < n → nat_abs (f j) ≤ m) → nat_abs (total f n) ≤ n * m
-unfolding total
-total_within f m zero h = omega (arith, zero-mul m)
-total_within f m (suc n) h =
-    omega (arith, ints, suc-mul n m, total_within f m n (λ j l. h j (omega arith)), h n (omega arith), abs_is (total f n), abs_is (f n), abs_is (total f n +ℤ f n))
-
 -- of terms that are not negative, some add up to no more than all
 pub total_some_up : (c : ℕ → Bool) (f : ℕ → ℤ) (n : ℕ) → ((j : ℕ) → j < n → pos 0 ≤ℤ f j) → (pos 0 ≤ℤ total (λ j. cond (c j) (f j) (pos 0)) n) × (total (λ j. cond (c j) (f j) (pos 0)) n ≤ℤ total f n)
 unfolding total
