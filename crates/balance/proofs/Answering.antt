@@ -1,8 +1,9 @@
 -- From what was gathered to the balance of the quarter hour. Assumes nothing.
-use Rattle.std.proofs.Common.{◌≡◌, ℕ, ◌<◌, ◌≤◌, true, false, ltb, List, length, get_or, ℤ, is_some, Some, None, Ok, Err, Option, Result, sym, refl, ap, ◌∙◌, subst, ⊎_elim, arith}
+use Rattle.std.proofs.Common.{◌≡◌, ℕ, ◌<◌, ◌≤◌, true, false, cond, ltb, List, length, get_or, ℤ, is_some, Some, None, Ok, Err, Option, Result, sym, refl, ap, ◌∙◌, subst, ⊎_elim, arith}
 use mathlib.Core.Path.{fun_ext}
 use Rattle.std.proofs.lemmas.List.{get_or_past}
 use Rattle.std.proofs.lemmas.Bool.{cases_lt, cond-true, cond-false, le-ltb, true≢false}
+use Rattle.std.proofs.lemmas.Bool.Decides.{nat_tests}
 use Rattle.refusal.specs.declared.Refusal.{Refusal}
 use Rattle.refusal.specs.declared.Refusal.TheVariants.{QuarterHour, EmptyRoll}
 use Rattle.roll.specs.declared.row.Row.{Row}
@@ -18,6 +19,10 @@ use Rattle.balance.specs.Settling.{Settled, blank_row, sheet_in}
 use Rattle.balance.specs.Totals.{total, or_else, first_of}
 use Rattle.balance.proofs.Balanced.{balanced}
 use Rattle.balance.proofs.Settling.{carried_when}
+
+-- what was let through by the check of the quarter hour
+pub early_is : (q : ℕ) (t : Unit {0}) → Ok t ≡ cond (ltb 99 q) (Err QuarterHour) (Ok tt) → q ≤ 99
+early_is q t h = grind (arith, nat_tests)
 
 pub unlisted_load : (row : Option Row) (g : Gross) → is_some row ≡ false → load_in row g ≡ 0
 unlisted_load None g e = refl

@@ -1,5 +1,5 @@
 -- What the program adds up is what the sheet says. Assumes nothing.
-use Rattle.std.proofs.Common.{◌≡◌, ℕ, ◌<◌, ◌≤◌, cond, List, map, length, get_or, ℤ, pos, ◌+ℤ◌, nat_abs, Some, None, Ok, Err, sum_by, sym, refl, ap, ◌∙◌, subst, ⊎_elim, zero-le, arith, take_all}
+use Rattle.std.proofs.Common.{◌≡◌, ℕ, ◌<◌, ◌≤◌, cond, List, map, length, get_or, ℤ, pos, ◌+ℤ◌, nat_abs, None, sum_by, sym, refl, ap, ◌∙◌, subst, ⊎_elim, zero-le, arith, take_all}
 use lib.ListN.{length-map}
 use borrow.Author.Differences.{ints, abs_is}
 use Rattle.std.specs.List.{range_with_len}
@@ -7,8 +7,6 @@ use Rattle.std.proofs.lemmas.List.FromFn.{fill_by_all}
 use Rattle.std.proofs.lemmas.List.{get_or-map, get_or_past}
 use Rattle.std.proofs.lemmas.Bool.{cases_lt}
 use Rattle.std.proofs.lemmas.Bool.Decides.{nat_tests}
-use Rattle.refusal.specs.declared.Refusal.{Refusal}
-use Rattle.split.specs.Answer.{split_answer}
 use Rattle.split.specs.Parts.{parts_of}
 use Rattle.balance.specs.declared.row.LoadedRow.{LoadedRow}
 use Rattle.balance.specs.Balance.{Sheet, metered, ufe, weight_of, weights, weighted, uncarried, adjusted, belongs, rtaml, qse_load}
@@ -18,13 +16,6 @@ use Rattle.balance.specs.Totals.{total, count}
 use Rattle.book.specs.Tables.{cell}
 use Rattle.balance.proofs.Balanced.{part_in_place, parts_long, part_most, rtaml_within, qse_within}
 use Rattle.balance.proofs.Totals.{count_places, total_same}
-
--- what the split refuses is that nobody carries the amount
-pub refused_is : (u : ℤ) (w n : ℕ) (e : Refusal) → Err e ≡ split_answer u w n n → uncarried u w ≡ Some e
-refused_is u w n e h = grind (arith, nat_tests)
-
-pub accepted_is : (u : ℤ) (w n : ℕ) (t : Unit {0}) → Ok t ≡ split_answer u w n n → uncarried u w ≡ None
-accepted_is u w n t h = grind (arith, nat_tests)
 
 -- where nothing is stranded, no weight means no UFE
 pub carried_when : (u : ℤ) (w : ℕ) → uncarried u w ≡ None → w ≡ 0 → u ≡ pos 0

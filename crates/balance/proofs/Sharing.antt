@@ -1,12 +1,13 @@
 -- When a balance has shares. Assumes nothing.
-use Rattle.std.proofs.Common.{◌≡◌, ℕ, Bool, true, false, cond, eqb, ℤ, pos, nat_abs, ◌<ℤ◌, is_ok, Some, None, Ok, Err, Option, Result, sym, refl, ap, ◌∙◌, arith}
+use Rattle.std.proofs.Common.{◌≡◌, ℕ, ◌<◌, true, cond, eqb, ℤ, pos, nat_abs, ◌<ℤ◌, Some, None, Ok, Err, Option, sym, refl, ap, ◌∙◌, arith}
 use lib.Signed.{lt_z}
 use borrow.Author.Differences.{ints, abs_is}
-use Rattle.std.proofs.lemmas.Bool.{cond-true, cond-false, eq-eqb, ne_eqb, and_left, false≢true}
+use Rattle.std.proofs.lemmas.Bool.{cond-true, cond-false, eq-eqb, ne_eqb, and_left}
+use Rattle.std.proofs.lemmas.Bool.Decides.{nat_tests}
 use Rattle.refusal.specs.declared.Refusal.{Refusal}
 use Rattle.refusal.specs.declared.Refusal.TheVariants.{ListLength, NoWeight, NoTotal}
 use Rattle.split.specs.Answer.{split_answer}
-use Rattle.balance.specs.Questions.{ok_unless, misfit}
+use Rattle.balance.specs.Questions.{ok_unless, misfit, nowhere}
 use Rattle.balance.specs.Totals.{or_else}
 
 pub positive_is : (gen : ℤ) → pos 0 <ℤ gen → lt_z (pos 0) gen ≡ true
@@ -24,21 +25,12 @@ shares_answered gen n m en em h =
     split
     ∙ sym (ap (λ (o : Option Refusal). ok_unless (or_else o (cond (lt_z (pos 0) gen) None (Some NoTotal))) tt) fits ∙ ap (λ (o : Option Refusal). ok_unless o tt) shared)
 
+-- a pair that was let through
+pub pair_is : (qse point : ℕ) (t : Unit {0}) → Ok t ≡ ok_unless (nowhere qse point) tt → (qse < 16) × (point < 8)
+pair_is qse point t h = (grind (arith, nat_tests), grind (arith, nat_tests))
+
 -- ---- one more thing to look at, where nothing else is amiss
 pub none_between : (a m r : Option Refusal) → or_else a r ≡ None → or_else a (or_else m r) ≡ m
 none_between None None r h = h
 none_between None (Some e) r h = refl
 none_between (Some e) m r h = cc
-
-pub none_beside : (a m r u : Option Refusal) → or_else a r ≡ None → or_else a (or_else m (or_else r u)) ≡ or_else m u
-none_beside None m r u h = ap (λ (o : Option Refusal). or_else m (or_else o u)) h
-none_beside (Some e) m r u h = cc
-
--- what is answered was not refused
-pub answered_positive : (gen : ℤ) (m : Option Refusal) (r : Result (Unit {0}) Refusal) → r ≡ ok_unless (or_else m (cond (lt_z (pos 0) gen) None (Some NoTotal))) tt → is_ok r ≡ true → pos 0 <ℤ gen
-answered_positive gen m r e h = by_cases (lt_z (pos 0) gen) m refl (ap is_ok (sym e) ∙ h)
-  where
-    by_cases : (b : Bool) (m : Option Refusal) → lt_z (pos 0) gen ≡ b → is_ok (ok_unless {X = Unit {0}} (or_else m (cond b None (Some NoTotal))) tt) ≡ true → pos 0 <ℤ gen
-    by_cases true m e t = omega (arith, ints)
-    by_cases false None e t = absurd (false≢true t)
-    by_cases false (Some r) e t = absurd (false≢true t)

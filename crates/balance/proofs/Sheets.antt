@@ -1,17 +1,18 @@
 -- Sums over rows, one row at a time, and how heavy a row can be. Assumes nothing.
-use Rattle.std.proofs.Common.{◌≡◌, ℕ, ◌+◌, ◌<◌, ◌≤◌, Bool, true, false, cond, ◌&&◌, eqb, List, [], length, get_or, take, set, ℤ, pos, ◌+ℤ◌, Some, None, sum_by, Option, sym, refl, ap, ◌∙◌, zero-le, arith}
+use Rattle.std.proofs.Common.{◌≡◌, ℕ, ◌*◌, ◌<◌, ◌≤◌, Bool, true, false, cond, ◌&&◌, eqb, List, [], ◌∷◌, length, get_or, set, ℤ, pos, ◌+ℤ◌, Some, None, sum_by, Option, sym, refl, ap, ◌∙◌, subst, zero-le, arith}
 use lib.IntN.{+ℤ_idr}
 use Rattle.std.proofs.lemmas.Nat.{mul-le}
-use Rattle.std.proofs.lemmas.List.Sums.{sum_by_more}
+use Rattle.std.specs.List.{All, AllByRecursion}
+use Rattle.std.proofs.lemmas.List.Elements.{All-from_recursion}
+use Rattle.std.proofs.lemmas.List.Sums.{sum_by-le}
 use Rattle.std.proofs.lemmas.Bool.{cond_both, and_parts, eqb-true}
 use Rattle.roll.specs.declared.row.Row.{Row}
 use Rattle.roll.specs.Segments.{plain_weight}
 use Rattle.book.specs.Tables.{cell}
 use Rattle.book.proofs.Tables.{put_at_cell}
+use Rattle.balance.specs.declared.row.LoadedRow.{LoadedRow}
 use Rattle.balance.specs.Balance.{weight_in}
-
-pub sum_by_read : {X : Type 0} (f : X → ℕ) (xs : List X) (i : ℕ) (x : X) → i < length xs → x ≡ get_or xs i x → sum_by f (take (i + 1) xs) ≡ sum_by f (take i xs) + f x
-sum_by_read f xs i x h read = sum_by_more f xs i x h ∙ ap (λ (n : ℕ). sum_by f (take i xs) + n) (ap f (sym read))
+use Rattle.balance.specs.Sheets.{row_load, weight_of_row}
 
 plain_weight_most : (row : Row) → plain_weight row ≤ 10
 plain_weight_most row =
@@ -21,6 +22,21 @@ plain_weight_most row =
 pub weight_in_most : (row : Option Row) (m : ℕ) → m ≤ 4000000 → weight_in row m ≤ 40000000
 weight_in_most None m h = zero-le
 weight_in_most (Some row) m h = mul-le (plain_weight row) m 10 4000000 (plain_weight_most row) h
+
+each : (f : LoadedRow → ℕ) (m : ℕ) → ((l : LoadedRow) → f l ≤ m) → (rows : List LoadedRow) → AllByRecursion (λ l. f l ≤ m) rows
+each f m small [] = tt
+each f m small (l ∷ rows) = (small l, each f m small rows)
+
+most : (f : LoadedRow → ℕ) (m : ℕ) → ((l : LoadedRow) → f l ≤ m) → (rows : List LoadedRow) → length rows ≡ 64 → sum_by f rows ≤ 64 * m
+most f m small rows many =
+    let all : All (λ l. f l ≤ m) rows = All-from_recursion (λ l. f l ≤ m) rows (each f m small rows) in
+    subst (λ (n : ℕ). sum_by f rows ≤ n * m) many (sum_by-le f m rows all)
+
+pub loads_most : (rows : List LoadedRow) → length rows ≡ 64 → sum_by row_load rows ≤ 256000000
+loads_most = most row_load 4000000 (λ l. l.small)
+
+pub weights_most : (rows : List LoadedRow) → length rows ≡ 64 → sum_by weight_of_row rows ≤ 2560000000
+weights_most = most weight_of_row 40000000 (λ l. weight_in_most l.row l.load l.small)
 
 -- ---- pairs
 -- an amount added in one place of a table

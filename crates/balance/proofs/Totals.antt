@@ -1,7 +1,8 @@
 -- Laws of sums over the numbers below a limit. Assumes nothing.
-use Rattle.std.proofs.Common.{◌≡◌, ℕ, zero, suc, ◌+◌, ◌-◌, ◌*◌, ◌<◌, ◌≤◌, Bool, true, false, cond, eqb, List, [], ◌∷◌, map, length, get_or, take, ℤ, pos, ◌+ℤ◌, nat_abs, ◌≤ℤ◌, Some, None, sum_by, Option, sym, refl, ap, ◌∙◌, subst, ⊎_elim, suc-mul, suc-add, zero-add, zero-mul, add-one, arith}
-use borrow.Author.Differences.{ints, abs_is}
-use Rattle.std.specs.List.{range_with_len}
+use Rattle.std.proofs.Common.{◌≡◌, ℕ, zero, suc, ◌+◌, ◌-◌, ◌*◌, ◌<◌, ◌≤◌, Bool, true, false, ◌||◌, cond, eqb, List, [], ◌∷◌, map, length, get_or, take, ℤ, pos, ◌+ℤ◌, ◌≤ℤ◌, is_some, Some, None, sum_by, Option, sym, refl, ap, ◌∙◌, subst, ⊎_elim, suc-mul, suc-add, zero-add, zero-mul, add-one, take_all, arith}
+use borrow.Author.Differences.{ints}
+use Rattle.std.specs.List.{range_with_len, list_any}
+use Rattle.std.proofs.lemmas.List.Folds.{list_any_more}
 use Rattle.std.proofs.lemmas.List.FromFn.{map-range_with_len_more}
 use Rattle.std.proofs.lemmas.List.Sums.{sum_by_more}
 use Rattle.std.proofs.lemmas.Bool.{cases_eq, eq-eqb, ne_eqb, cond-true, cond-false}
@@ -100,12 +101,6 @@ count_places g f xs d (suc k) h e =
     subst (λ (m : ℕ). sum_by g (take m xs) ≡ count f k + f k) (add-one k) step
 
 -- ---- bounds
-pub total_within : (f : ℕ → ℤ) (m n : ℕ) → ((j : ℕ) → j < n → nat_abs (f j) ≤ m) → nat_abs (total f n) ≤ n * m
-unfolding total
-total_within f m zero h = omega (arith, zero-mul m)
-total_within f m (suc n) h =
-    omega (arith, ints, suc-mul n m, total_within f m n (λ j l. h j (omega arith)), h n (omega arith), abs_is (total f n), abs_is (f n), abs_is (total f n +ℤ f n))
-
 -- of terms that are not negative, some add up to no more than all
 pub total_some_up : (c : ℕ → Bool) (f : ℕ → ℤ) (n : ℕ) → ((j : ℕ) → j < n → pos 0 ≤ℤ f j) → (pos 0 ≤ℤ total (λ j. cond (c j) (f j) (pos 0)) n) × (total (λ j. cond (c j) (f j) (pos 0)) n ≤ℤ total f n)
 unfolding total
@@ -147,6 +142,23 @@ pub first_found : {X : Type 0} (f : ℕ → Option X) (x : X) (i n : ℕ) → i 
 first_found {X} f x i n l e h =
     let here : first_of f (i + 1) ≡ Some x = first_more f i ∙ ap (λ (o : Option X). or_else o (f i)) e ∙ h in
     subst (λ (m : ℕ). first_of f m ≡ Some x) (omega arith) (first_stays f x (i + 1) (n - (i + 1)) here)
+
+-- whether there is one in a list is whether there is one by its places
+either : {X : Type 0} (a b : Option X) → (is_some a || is_some b) ≡ is_some (or_else a b)
+either None b = refl
+either (Some x) b = refl
+
+some_below : {X : Type 0} (xs : List (Option X)) (n : ℕ) → n ≤ length xs → list_any is_some (take n xs) ≡ is_some (first_of (λ k. get_or xs k None) n)
+unfolding first_of
+some_below xs zero h = refl
+some_below xs (suc n) h =
+    let more = list_any_more is_some xs n None (omega arith) in
+    let one = ap (λ (b : Bool). b || is_some (get_or xs n None)) (some_below xs n (omega arith)) in
+    let step : list_any is_some (take (n + 1) xs) ≡ is_some (first_of (λ k. get_or xs k None) (suc n)) = more ∙ one ∙ either (first_of (λ k. get_or xs k None) n) (get_or xs n None) in
+    subst (λ (m : ℕ). list_any is_some (take m xs) ≡ is_some (first_of (λ k. get_or xs k None) (suc n))) (add-one n) step
+
+pub somebody_among : {X : Type 0} (xs : List (Option X)) (n : ℕ) → length xs ≡ n → list_any is_some xs ≡ is_some (first_of (λ k. get_or xs k None) n)
+somebody_among xs n e = ap (list_any is_some) (sym (take_all n xs (omega arith))) ∙ some_below xs n (omega arith)
 
 pub first_none : {X : Type 0} (f : ℕ → Option X) → first_of f 0 ≡ None
 unfolding first_of

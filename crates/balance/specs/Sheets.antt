@@ -1,7 +1,8 @@
 -- Rows with their loads, added up. Assumes nothing.
-use Rattle.std.specs.Prelude.{◌≡◌, ℕ, ◌<◌, cond, ◌&&◌, List, [], length, get_or, ℤ, pos, Some, None, Option, ◌==◌, slice_index_or}
+use Rattle.std.specs.Prelude.{◌≡◌, ℕ, ◌<◌, ◌≤◌, cond, ◌&&◌, List, [], length, get_or, ℤ, pos, Some, None, Option, ◌==◌, slice_index_or, unsigned_abs}
 use Rattle.roll.specs.declared.row.Row.{Row}
 use Rattle.balance.specs.declared.row.LoadedRow.{LoadedRow}
+use Rattle.book.specs.Tables.{cell}
 use Rattle.balance.specs.Balance.{weight_in, belongs}
 use Rattle.balance.specs.Totals.{total}
 
@@ -23,6 +24,14 @@ PairOf row (Some pair) =
 -- a table of 16 QSEs by 8 settlement points
 abbrev pub Shaped : List (List ℤ) → Type 0
 Shaped pairs = (length pairs ≡ 16) × ((k : ℕ) → k < 16 → length (slice_index_or pairs k []) ≡ 8)
+
+-- no amount is larger than m, either way
+abbrev pub EachWithin : ℕ → List ℤ → Type 0
+EachWithin m amounts = (s : ℕ) → unsigned_abs (slice_index_or amounts s (pos 0)) ≤ m
+
+-- and none of a table by QSE and settlement point
+abbrev pub CellsWithin : ℕ → List (List ℤ) → Type 0
+CellsWithin m pairs = (qse point : ℕ) → unsigned_abs (cell (pos 0) pairs qse point) ≤ m
 
 -- what the first n rows bring to a pair, by their amounts
 abbrev pub pair_sum : List LoadedRow → List ℤ → LoadedRow → ℕ → ℕ → ℕ → ℤ

@@ -15,13 +15,7 @@ impl<B: LoadBook> QuarterHour<'_, B> {
     pub(crate) fn has_segment(&self) -> bool
         ensures { result ≡ is_some (first_of (somebody (rows_of self.now.roll.now)) 64) }
     {
-        for segment in 0..64u8 {
-            match self.roll.row(segment) {
-                Some(_) => return true,
-                None => {}
-            }
-        }
-        false
+        self.roll.rows().iter().any(Option::is_some)
     }
 
     /// What one site brings in: its figure if it is listed, else nothing.
@@ -31,10 +25,9 @@ impl<B: LoadBook> QuarterHour<'_, B> {
         if !self.roll.has_site(site) {
             return Ok(0);
         }
-        match self.figures.at(site, self.quarter_hour) {
-            Some(wh) => Ok(wh),
-            None => Err(Refusal::NoFigure { site }),
-        }
+        self.figures
+            .at(site, self.quarter_hour)
+            .ok_or(Refusal::NoFigure { site })
     }
 
     /// The figures of the listed sites, added up: the first site without one decides.

@@ -11,8 +11,9 @@ ghost use Rattle.balance.specs.Totals.{or_else};
 
 use crate::figures::Figures;
 use crate::settled::Balance;
+use crate::settled::reading::check_pair;
 use crate::settled::settling::settle;
-use book::LoadBook;
+use book::{LoadBook, check_quarter_hour};
 use refusal::Refusal;
 use roll::Roll;
 
@@ -39,9 +40,7 @@ impl<B: LoadBook> QuarterHour<'_, B> {
     pub fn balance(&self) -> Result<Balance, Refusal>
         ensures { AnsweredAs result self.now.quarter_hour (quarter B.LoadBook self.now) }
     {
-        if self.quarter_hour > 99 {
-            return Err(Refusal::QuarterHour);
-        }
+        check_quarter_hour(self.quarter_hour)?;
         if !self.has_segment() {
             return Err(Refusal::EmptyRoll);
         }
@@ -57,9 +56,7 @@ impl<B: LoadBook> QuarterHour<'_, B> {
         ensures adds_up { is_ok result ≡ true → sum_of list.new ≡ (sheet_of (quarter B.LoadBook self.now)).generation }
         ensures law { is_ok result ≡ true → Balanced (sheet_of (quarter B.LoadBook self.now)) }
     {
-        if self.quarter_hour > 99 {
-            return Err(Refusal::QuarterHour);
-        }
+        check_quarter_hour(self.quarter_hour)?;
         if list.len() != 64 {
             return Err(Refusal::ListLength);
         }
@@ -71,12 +68,8 @@ impl<B: LoadBook> QuarterHour<'_, B> {
         ensures answer { result ≡ ok_unless (or_else (late_at self.now.quarter_hour) (or_else (nowhere qse point) (refusal_of_quarter (quarter B.LoadBook self.now)))) (rtaml_of (sheet_of (quarter B.LoadBook self.now)) qse point) }
         ensures law { is_ok result ≡ true → Balanced (sheet_of (quarter B.LoadBook self.now)) }
     {
-        if self.quarter_hour > 99 {
-            return Err(Refusal::QuarterHour);
-        }
-        if qse > 15 || point > 7 {
-            return Err(Refusal::SegmentField);
-        }
+        check_quarter_hour(self.quarter_hour)?;
+        check_pair(qse, point)?;
         self.balance()?.rtaml(qse, point)
     }
 
@@ -99,9 +92,7 @@ impl<B: LoadBook> QuarterHour<'_, B> {
         ensures adds_up { is_ok result ≡ true → sum_of list.new ≡ pos 1000000000 }
         ensures law { is_ok result ≡ true → Balanced (sheet_of (quarter B.LoadBook self.now)) }
     {
-        if self.quarter_hour > 99 {
-            return Err(Refusal::QuarterHour);
-        }
+        check_quarter_hour(self.quarter_hour)?;
         if list.len() != 16 {
             return Err(Refusal::ListLength);
         }

@@ -1,6 +1,5 @@
 // The balance of one quarter hour, worked out once: every question about it is read off this.
-ghost use Rattle.std.specs.Prelude.{◌≡◌, ◌≤◌, length, unsigned_abs};
-ghost use Rattle.balance.specs.Sheets.{Shaped};
+ghost use Rattle.std.specs.Prelude.{◌≤◌, unsigned_abs};
 
 pub mod reading;
 pub mod settling;
@@ -18,7 +17,4 @@ pub struct Balance {
     /// RTAML by QSE.
     qse_loads: [i32; 16],
     ghost within: { unsigned_abs generation ≤ 160000000 },
-    ghost segments: { length adjusted ≡ 64 },
-    ghost shape: { Shaped pairs },
-    ghost qses: { length qse_loads ≡ 16 },
 }

@@ -1,11 +1,24 @@
 // How figures are entered, struck and read.
-ghost use Rattle.std.specs.Prelude.{◌≡◌, ◌≤◌, pos, is_ok, if◌then◌else◌, Some, None, unsigned_abs};
+ghost use Rattle.std.specs.Prelude.{◌≡◌, ◌≤◌, pos, is_ok, if◌then◌else◌, Some, None, Ok, Err, nat_lt, unsigned_abs};
 ghost use Rattle.std.specs.Option.{unwrap_or};
+ghost use Rattle.refusal.specs.declared.Refusal.TheVariants as refused;
 ghost use Rattle.book.specs.Tables.{blank, put_at};
 ghost use Rattle.balance.specs.Figures.{figures_of, figure_answer, strike_answer};
 
 use crate::figures::Figures;
+use book::check_quarter_hour;
 use refusal::Refusal;
+
+/// That a figure has a place: the quarter hour is looked at first, then the site.
+fn check_place(site: u8, quarter_hour: u8) -> Result<(), Refusal>
+    ensures { result ≡ (if nat_lt 99 quarter_hour then Err refused.QuarterHour else (if nat_lt 15 site then Err refused.SiteNumber else Ok tt)) }
+{
+    check_quarter_hour(quarter_hour)?;
+    if site > 15 {
+        return Err(Refusal::SiteNumber);
+    }
+    Ok(())
+}
 
 impl Figures {
     /// No figure stands.
@@ -22,11 +35,10 @@ impl Figures {
         ensures value { result ≡ figures_of self.now site quarter_hour }
         ensures within { unsigned_abs (unwrap_or result (pos 0)) ≤ 10000000 }
     {
-        if site > 15 || quarter_hour > 99 {
-            None
-        } else {
-            self.table[site as usize][quarter_hour as usize]
-        }
+        *self
+            .table
+            .get(usize::from(site))?
+            .get(usize::from(quarter_hour))?
     }
 
     fn put(&mut self, site: u8, quarter_hour: u8, content: Option<i32>)
@@ -45,13 +57,8 @@ impl Figures {
         ensures answer { result ≡ figure_answer (figures_of self.old) site quarter_hour wh }
         ensures after { figures_of self.new ≡ (if is_ok result then put_at site quarter_hour (Some wh) (figures_of self.old) else figures_of self.old) }
     {
-        if quarter_hour > 99 {
-            return Err(Refusal::QuarterHour);
-        }
-        if site > 15 {
-            return Err(Refusal::SiteNumber);
-        }
-        if wh > 10_000_000 || wh < -10_000_000 {
+        check_place(site, quarter_hour)?;
+        if wh.unsigned_abs() > 10_000_000 {
             return Err(Refusal::Figure);
         }
         let earlier = self.at(site, quarter_hour);
@@ -64,15 +71,8 @@ impl Figures {
         ensures answer { result ≡ strike_answer (figures_of self.old) site quarter_hour }
         ensures after { figures_of self.new ≡ (if is_ok result then put_at site quarter_hour None (figures_of self.old) else figures_of self.old) }
     {
-        if quarter_hour > 99 {
-            return Err(Refusal::QuarterHour);
-        }
-        if site > 15 {
-            return Err(Refusal::SiteNumber);
-        }
-        let Some(earlier) = self.at(site, quarter_hour) else {
-            return Err(Refusal::NothingStands);
-        };
+        check_place(site, quarter_hour)?;
+        let earlier = self.at(site, quarter_hour).ok_or(Refusal::NothingStands)?;
         self.put(site, quarter_hour, None);
         Ok(earlier)
     }

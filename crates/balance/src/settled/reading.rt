@@ -12,6 +12,16 @@ use refusal::Refusal;
 /// One, in billionths.
 const WHOLE: i32 = 1_000_000_000;
 
+/// That there is such a QSE, and such a settlement point.
+pub(crate) fn check_pair(qse: u8, point: u8) -> Result<(), Refusal>
+    ensures { result ≡ ok_unless (nowhere qse point) tt }
+{
+    if qse > 15 || point > 7 {
+        return Err(Refusal::SegmentField);
+    }
+    Ok(())
+}
+
 impl Balance {
     /// G, in Wh.
     pub fn generation(&self) -> i64
@@ -43,9 +53,7 @@ impl Balance {
     pub fn rtaml(&self, qse: u8, point: u8) -> Result<i64, Refusal>
         ensures { result ≡ ok_unless (nowhere qse point) (cell (pos 0) self.now.pairs qse point) }
     {
-        if qse > 15 || point > 7 {
-            return Err(Refusal::SegmentField);
-        }
+        check_pair(qse, point)?;
         Ok(self.pairs[qse as usize][point as usize])
     }
 

@@ -4,7 +4,7 @@ ghost use Rattle.book.specs.Tables.{cell};
 ghost use Rattle.split.specs.Parts.{parts_of};
 ghost use Rattle.balance.specs.Balance.{ufe as ufe_of, weighted as weighted_of, weights, stranded};
 ghost use Rattle.balance.specs.Settling.{Holds, Settled, SplitAs, sheet_in};
-ghost use Rattle.balance.specs.Sheets.{Shaped, row_weight_z};
+ghost use Rattle.balance.specs.Sheets.{CellsWithin, EachWithin, row_weight_z};
 ghost use Rattle.balance.specs.Totals.{total};
 
 use crate::row::LoadedRow;
@@ -14,48 +14,41 @@ use refusal::Refusal;
 
 /// What a QSE has at all settlement points.
 fn sum_points(points: &[i64; 8]) -> i64
-    requires places { length points.now ≡ 8 }
-    requires small { (p : ℕ) → unsigned_abs (slice_index_or points.now p (pos 0)) ≤ 672000000 }
+    requires { EachWithin 672000000 points.now }
     ensures { result ≡ total (λ p. get_or points.now p (pos 0)) 8 }
 {
     let mut sum = 0i64;
-    for p in 0..8usize {
-        sum += points[p];
+    for point in points {
+        sum += *point;
     }
     sum
 }
 
 /// What each QSE has.
 fn add_points(pairs: &[[i64; 8]; 16]) -> [i32; 16]
-    requires shape { Shaped pairs.now }
-    requires small { (q p : ℕ) → unsigned_abs (cell (pos 0) pairs.now q p) ≤ 672000000 }
+    requires small { CellsWithin 672000000 pairs.now }
     requires sums { (q : ℕ) → q < 16 → unsigned_abs (total (λ p. cell (pos 0) pairs.now q p) 8) ≤ 672000000 }
-    ensures length { length result ≡ 16 }
-    ensures value { (q : ℕ) → q < 16 → slice_index_or result q (pos 0) ≡ total (λ p. cell (pos 0) pairs.now q p) 8 }
+    ensures { (q : ℕ) → q < 16 → slice_index_or result q (pos 0) ≡ total (λ p. cell (pos 0) pairs.now q p) 8 }
 {
     let mut sums = [0i32; 16];
-    for q in 0..16usize {
-        sums[q] = sum_points(&pairs[q]) as i32;
+    for (q, points) in pairs.iter().enumerate() {
+        sums[q] = sum_points(points) as i32;
     }
     sums
 }
 
 /// The parts of the unaccounted-for energy, upward by segment.
 fn split_ufe(rows: &[LoadedRow; 64], ufe: i64, weighted: u32) -> Result<[i64; 64], Refusal>
-    requires rows { length rows.now ≡ 64 }
-    requires ufe { unsigned_abs ufe ≤ 416000000 }
+    requires { unsigned_abs ufe ≤ 416000000 }
     ensures { SplitAs result ufe weighted (map row_weight_z rows.now) }
 {
     let mut parts = [0i64; 64];
-    match split::split(ufe as i32, 0, weighted, rows, &mut parts) {
-        Ok(()) => Ok(parts),
-        Err(refusal) => Err(refusal),
-    }
+    split::split(ufe as i32, 0, weighted, rows, &mut parts)?;
+    Ok(parts)
 }
 
 /// The balance by the parts.
 fn carry(rows: &[LoadedRow; 64], generation: i64, ufe: i64, parts: &[i64; 64]) -> Balance
-    requires rows { length rows.now ≡ 64 }
     requires generation { unsigned_abs generation ≤ 160000000 }
     requires ufe { ufe ≡ ufe_of (sheet_in rows.now generation) }
     requires carried { stranded (sheet_in rows.now generation) ≡ None }
@@ -76,13 +69,10 @@ fn carry(rows: &[LoadedRow; 64], generation: i64, ufe: i64, parts: &[i64; 64]) -
 
 /// The balance, or the refusal where there is unaccounted-for energy and no weight to carry it.
 pub(crate) fn settle(rows: &[LoadedRow; 64], generation: i64) -> Result<Balance, Refusal>
-    requires rows { length rows.now ≡ 64 }
-    requires generation { unsigned_abs generation ≤ 160000000 }
+    requires { unsigned_abs generation ≤ 160000000 }
     ensures { Settled (sheet_in rows.now generation) result }
 {
     let ufe = generation - i64::from(sum_loads(rows));
-    match split_ufe(rows, ufe, sum_weights(rows)) {
-        Ok(parts) => Ok(carry(rows, generation, ufe, &parts)),
-        Err(refusal) => Err(refusal),
-    }
+    let parts = split_ufe(rows, ufe, sum_weights(rows))?;
+    Ok(carry(rows, generation, ufe, &parts))
 }

@@ -1,15 +1,5 @@
-use Rattle.std.proofs.Common.{sym, ⊎_elim, zero-le, arith}
-use Rattle.book.proofs.Tables.{past_rows, past_quarter_hours}
+use Rattle.std.proofs.Common.{rules}
 use Rattle.balance.proofs.figures.Figures.at.Goals as goal
 
-pub returns-then-quarter_hour-gt99 : goal.returns-then-quarter_hour-gt99
-returns-then-quarter_hour-gt99 c =
-    let self = c.args.self.now in
-    let k = c.args.site in
-    let q = c.args.quarter_hour in
-    record {
-      value = ⊎_elim
-          (λ past. sym (past_rows self.table k q (omega (arith, self.sites))))
-          (λ late. sym (past_quarter_hours self.table k q (omega (arith, self.quarter_hours k (omega (arith, late.0)), late.1)))) c.if-quarter_hour-gt99.either;
-      within = zero-le;
-    }
+pub returns-clause-within : goal.returns-clause-within
+returns-clause-within c = search (rules, c.args.self.now.within c.args.site c.args.quarter_hour)

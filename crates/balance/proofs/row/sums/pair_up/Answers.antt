@@ -27,26 +27,27 @@ loop-s-preserved c =
     let rows = c.args.rows.now in
     let amounts = c.args.amounts.now in
     let s = c.loop-s.s in
+    let row = get_or rows s c.index-rows-s.result in
     let amount = get_or amounts s (pos 0) in
     let added = c.add_to_pair.ensures.value in
-    let small = c.requires.small s in
+    let small = c.requires s in
     let read : to_z w64 (of_z w64 amount) ≡ amount = omega (arith, ints, small, abs_is amount) in (
       c.add_to_pair.ensures.shape,
       λ d qse point.
-          let row : c.index-rows-s.result ≡ get_or rows s d = c.index-rows-s.is ∙ get_or_default rows s c.index-rows-s.result d (omega arith) in
+          let same : row ≡ get_or rows s d = get_or_default rows s c.index-rows-s.result d (omega arith) in
           let f : ℕ → ℤ = λ k. cond (belongs (get_or rows k d).row qse point) (get_or amounts k (pos 0)) (pos 0) in
-          let term : cond (belongs c.index-rows-s.result.row qse point) (to_z w64 (of_z w64 amount)) (pos 0) ≡ f s =
-          ap (λ (z : ℤ). cond (belongs c.index-rows-s.result.row qse point) z (pos 0)) read
-          ∙ ap (λ (l : LoadedRow). cond (belongs l.row qse point) amount (pos 0)) row in
+          let term : cond (belongs row.row qse point) (to_z w64 (of_z w64 amount)) (pos 0) ≡ f s =
+          ap (λ (z : ℤ). cond (belongs row.row qse point) z (pos 0)) read
+          ∙ ap (λ (l : LoadedRow). cond (belongs l.row qse point) amount (pos 0)) same in
           added qse point ∙ ap (λ (z : ℤ). cell (pos 0) c.loop-s.pairs qse point +ℤ z) term
           ∙ ap (λ (z : ℤ). z +ℤ f s) (c.loop-s.invariant.1 d qse point) ∙ sym (total_more f s),
       λ qse point.
-          let b = belongs c.index-rows-s.result.row qse point in
+          let b = belongs row.row qse point in
           let old = cell (pos 0) c.loop-s.pairs qse point in
           subst (λ (z : ℤ). nat_abs z ≤ (s + 1) * 420000000) (sym (added qse point ∙ ap (λ (z : ℤ). old +ℤ cond b z (pos 0)) read)) (grown b old amount s (c.loop-s.invariant.2 qse point) small),
     )
 
 pub returns : goal.returns
-returns c =
+returns c d qse point =
     let all : c.loop-s.s ≡ 64 = omega arith in
-    record { shape = c.loop-s.invariant.0; value = λ d qse point. rw all at (c.loop-s.invariant.1 d qse point) }
+    rw all at (c.loop-s.invariant.1 d qse point)

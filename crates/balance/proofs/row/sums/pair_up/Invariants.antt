@@ -1,12 +1,12 @@
-use Rattle.std.proofs.Common.{◌≡◌, ℕ, ◌*◌, ◌≤◌, pos, nat_abs}
+use Rattle.std.proofs.Common.{◌≡◌, ℕ, ◌*◌, pos}
 use Rattle.book.specs.Tables.{cell}
 use Rattle.balance.specs.declared.row.LoadedRow.{LoadedRow}
-use Rattle.balance.specs.Sheets.{Shaped, pair_sum}
+use Rattle.balance.specs.Sheets.{CellsWithin, Shaped, pair_sum}
 use Rattle.balance.proofs.row.sums.pair_up.Given as goal
 
--- the pairs have what the rows below s bring, and are as small as so many amounts
+-- the pairs have what the rows so far bring, and are as small as so many amounts
 abbrev pub invariant-loop-s : goal.invariant-loop-s
 invariant-loop-s l =
     Shaped l.pairs
     × ((d : LoadedRow) (qse point : ℕ) → cell (pos 0) l.pairs qse point ≡ pair_sum l.rows l.amounts d l.s qse point)
-    × ((qse point : ℕ) → nat_abs (cell (pos 0) l.pairs qse point) ≤ l.s * 420000000)
+    × CellsWithin (l.s * 420000000) l.pairs

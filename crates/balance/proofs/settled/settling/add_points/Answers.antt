@@ -20,5 +20,5 @@ loop-q-preserved c =
     let b : nat_abs (f q) ≤ 672000000 = c.requires.sums q c.loop-q-test.true in
     let value : to_z w32 (of_z w32 (to_z w64 (of_z w64 c.sum_points.result))) ≡ f q = omega (arith, ints, h, b, abs_is (f q)) in (
       length-set c.loop-q.sums q _ ∙ c.loop-q.invariant.0,
-      rw value (fill_by_more f c.loop-q.sums q (pos 0) (omega (arith, c.loop-q.invariant.0)) c.loop-q.invariant.1),
+      rw value (fill_by_more f c.loop-q.sums q (pos 0) (omega arith) c.loop-q.invariant.1),
     )

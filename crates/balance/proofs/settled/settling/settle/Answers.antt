@@ -1,6 +1,7 @@
-use Rattle.std.proofs.Common.{◌≡◌, ℕ, List, map, length, ℤ, pos, ◌-ℤ◌, Some, None, sum_by, Option, sym, ap, ◌∙◌, subst, arith, w64, to_z, of_z}
+use Rattle.std.proofs.Common.{◌≡◌, ℕ, List, map, length, ℤ, pos, ◌-ℤ◌, Some, None, sum_by, Option, sym, ap, ◌∙◌, subst, arith, rules, w64, to_z, of_z}
 use borrow.Author.Differences.{ints, abs_is}
 use Rattle.std.proofs.lemmas.Int.{to_z-of_z}
+use Rattle.std.proofs.lemmas.Result.{err_from_is_err_and}
 use Rattle.refusal.specs.declared.Refusal.{Refusal}
 use Rattle.split.specs.Parts.{parts_of}
 use Rattle.balance.specs.declared.row.LoadedRow.{LoadedRow}
@@ -32,38 +33,43 @@ carry-requires c =
     let u : ℤ = to_z w64 (of_z w64 (g -ℤ to_z w64 (of_z w64 c.from.result))) in
     let l : ℕ = c.sum_loads.result in
     let w : ℕ = c.sum_weights.result in
-    let eu : u ≡ g -ℤ pos l = omega (arith, ints, c.from.ensures, c.sum_loads.ensures.bound, c.requires.generation, abs_is c.args.generation) in
-    let got = c.in-Ok.ensures in
+    let eu : u ≡ g -ℤ pos l = omega (arith, ints, c.from.ensures, c.sum_loads.ensures.bound, c.requires, abs_is c.args.generation) in
+    let got = c.in_ok-parts.ensures in
+    let many : length rows ≡ 64 = search rules in
     let el = c.sum_loads.ensures.value in
     let ew = c.sum_weights.ensures in
     record {
-      rows = c.requires.rows;
-      generation = omega (arith, ints, c.requires.generation, abs_is c.args.generation);
-      ufe = ufe_same rows g u l w c.requires.rows el ew eu;
-      carried = stranded_same rows g u l w c.requires.rows el ew eu None got.0;
-      parts = parts_same rows g u l w c.requires.rows el ew eu c.in-Ok.parts got.1;
+      generation = omega (arith, ints, c.requires, abs_is c.args.generation);
+      ufe = ufe_same rows g u l w many el ew eu;
+      carried = stranded_same rows g u l w many el ew eu None got.0;
+      parts = parts_same rows g u l w many el ew eu c.in_ok-parts.parts got.1;
     }
 
-pub returns-in-Ok : goal.returns-in-Ok
-returns-in-Ok c =
+pub returns : goal.returns
+returns c =
     let rows = c.args.rows.now in
     let g : ℤ = to_z w64 (of_z w64 c.args.generation) in
     let u : ℤ = to_z w64 (of_z w64 (g -ℤ to_z w64 (of_z w64 c.from.result))) in
     let l : ℕ = c.sum_loads.result in
-    let eu : u ≡ g -ℤ pos l = omega (arith, ints, c.from.ensures, c.sum_loads.ensures.bound, c.requires.generation, abs_is c.args.generation) in
+    let many : length rows ≡ 64 = search rules in
+    let eu : u ≡ g -ℤ pos l = omega (arith, ints, c.from.ensures, c.sum_loads.ensures.bound, c.requires, abs_is c.args.generation) in
     let read = to_z-of_z w64 c.args.generation c.ranges.generation in
-    let none = stranded_same rows g u l c.sum_weights.result c.requires.rows c.sum_loads.ensures.value c.sum_weights.ensures eu None c.in-Ok.ensures.0 in (
+    let none = stranded_same rows g u l c.sum_weights.result many c.sum_loads.ensures.value c.sum_weights.ensures eu None c.in_ok-parts.ensures.0 in (
       subst (λ (z : ℤ). stranded (sheet_in rows z) ≡ None) read none,
       subst (λ (z : ℤ). Holds (sheet_in rows z) c.carry.result) read c.carry.ensures,
     )
 
-pub returns-in-Err : goal.returns-in-Err
-returns-in-Err c =
+pub returns-in_err-parts : goal.returns-in_err-parts
+returns-in_err-parts c =
     let rows = c.args.rows.now in
     let g : ℤ = to_z w64 (of_z w64 c.args.generation) in
     let u : ℤ = to_z w64 (of_z w64 (g -ℤ to_z w64 (of_z w64 c.from.result))) in
     let l : ℕ = c.sum_loads.result in
-    let eu : u ≡ g -ℤ pos l = omega (arith, ints, c.from.ensures, c.sum_loads.ensures.bound, c.requires.generation, abs_is c.args.generation) in
+    let e = c.in_err-parts.field-0.0 in
+    let many : length rows ≡ 64 = search rules in
+    let eu : u ≡ g -ℤ pos l = omega (arith, ints, c.from.ensures, c.sum_loads.ensures.bound, c.requires, abs_is c.args.generation) in
     let read = to_z-of_z w64 c.args.generation c.ranges.generation in
-    subst (λ (z : ℤ). stranded (sheet_in rows z) ≡ Some c.in-Err.refusal) read
-    (stranded_same rows g u l c.sum_weights.result c.requires.rows c.sum_loads.ensures.value c.sum_weights.ensures eu (Some c.in-Err.refusal) c.in-Err.ensures)
+    let p = err_from_is_err_and c.from_residual.result c.from_residual.ensures.1 in
+    rw (p.1, p.2)
+    (subst (λ (z : ℤ). stranded (sheet_in rows z) ≡ Some e) read
+    (stranded_same rows g u l c.sum_weights.result many c.sum_loads.ensures.value c.sum_weights.ensures eu (Some e) c.in_err-parts.ensures))

@@ -4,17 +4,17 @@ use Rattle.balance.specs.Totals.{total}
 use Rattle.balance.proofs.Totals.{total_more}
 use Rattle.balance.proofs.settled.settling.sum_points.Goals as goal
 
-pub loop-p-init : goal.loop-p-init
+pub loop-point-init : goal.loop-point-init
 unfolding total
-loop-p-init c = (refl, zero-le)
+loop-point-init c = (refl, zero-le)
 
-pub loop-p-preserved : goal.loop-p-preserved
-loop-p-preserved c =
-    let p = c.loop-p.p in
+pub loop-point-preserved : goal.loop-point-preserved
+loop-point-preserved c =
+    let p = c.loop-point.point-index in
     let points = c.args.points.now in
     let more = total_more (λ k. get_or points k (pos 0)) p in
-    let small = c.requires.small p in
-    let before : nat_abs c.loop-p.sum ≤ p * 672000000 = subst (λ (z : ℤ). nat_abs z ≤ p * 672000000) c.loop-p.sum-is c.loop-p.invariant.1 in (
-      omega (arith, ints, more, c.loop-p.invariant.0, small, before, abs_is (get_or points p (pos 0))),
+    let small = c.requires p in
+    let before : nat_abs c.loop-point.sum ≤ p * 672000000 = subst (λ (z : ℤ). nat_abs z ≤ p * 672000000) c.loop-point.sum-is c.loop-point.invariant.1 in (
+      omega (arith, ints, more, c.loop-point.invariant.0, small, before, abs_is (get_or points p (pos 0))),
       omega (arith, ints, before, small, add-mul p 1 672000000, abs_is (get_or points p (pos 0))),
     )
