@@ -1,6 +1,9 @@
 -- One quarter hour more of a row. Assumes nothing.
-use Rattle.std.proofs.Common.{◌≡◌, ℕ, zero, suc, ◌+◌, ◌<◌, ◌≤◌, Bool, true, false, cond, not, ◌&&◌, eqb, ltb, List, get_or, is_some, is_ok, Some, None, Ok, Err, Option, sym, refl, ap, ◌∙◌, ⊎_elim, add-one, arith}
+use Rattle.std.proofs.Common.{◌≡◌, ℕ, zero, suc, ◌+◌, ◌<◌, ◌≤◌, Bool, true, false, cond, not, ◌&&◌, eqb, ltb, List, get_or, sum_by, count_by, is_some, is_ok, Some, None, Ok, Err, Option, sym, refl, ap, ◌∙◌, subst, ⊎_elim, add-one, arith}
 use mathlib.Core.Path.{fun_ext}
+use Rattle.std.specs.List.{range_with_len}
+use Rattle.std.proofs.lemmas.List.Sums.{sum-map}
+use Rattle.std.proofs.lemmas.List.FromFn.{sum_by-map-range_with_len_more}
 use Rattle.std.proofs.lemmas.Bool.{cases_eq, cond-false, ne_eqb, le-ltb}
 use Rattle.std.proofs.lemmas.Bool.Decides.{nat_tests}
 use Rattle.refusal.specs.declared.Refusal.TheVariants.{SegmentNumber, QuarterHour, Reading, NoPlace}
@@ -13,11 +16,30 @@ pub lacking_more : (st : Standing) (s n : ℕ) → lacking st s (n + 1) ≡ lack
 unfolding lacking
 lacking_more st s n = ap (lacking st s) (add-one n)
 
-pub lacking_none : (st : Standing) (s : ℕ) → lacking st s 0 ≡ 0
+lacking_none : (st : Standing) (s : ℕ) → lacking st s 0 ≡ 0
 unfolding lacking
 lacking_none st s = refl
 
-pub lacking_grows : (st : Standing) (s n m : ℕ) → n ≤ m → lacking st s n ≤ lacking st s m
+-- they are those of the first n that have no reading, counted
+sum_more : (f : ℕ → ℕ) (n : ℕ) → sum_by f (range_with_len 0 (n + 1)) ≡ sum_by f (range_with_len 0 n) + f n
+sum_more f n =
+    sym (sum-map f (range_with_len 0 (n + 1))) ∙ sum_by-map-range_with_len_more (λ x. x) f 0 n n (omega arith) ∙ ap (λ x. x + f n) (sum-map f (range_with_len 0 n))
+
+one_less : (b : Bool) → ◌≡◌ {A = ℕ} (cond (not b) 1 0) (cond b 0 1)
+one_less true = refl
+one_less false = refl
+
+pub lacking_counted : (st : Standing) (s n : ℕ) → count_by (λ q. not (is_some (st s q))) (range_with_len 0 n) ≡ lacking st s n
+unfolding lacking
+lacking_counted st s zero = refl
+lacking_counted st s (suc n) =
+    let before = lacking_counted st s n in
+    let last = one_less (is_some (st s n)) in
+    let here : count_by (λ q. not (is_some (st s q))) (range_with_len 0 (n + 1)) ≡ lacking st s (n + 1) =
+    omega (arith, before, last, sum_more (λ q. cond (not (is_some (st s q))) 1 0) n, lacking_more st s n) in
+    subst (λ (k : ℕ). count_by (λ q. not (is_some (st s q))) (range_with_len 0 k) ≡ lacking st s k) (add-one n) here
+
+lacking_grows : (st : Standing) (s n m : ℕ) → n ≤ m → lacking st s n ≤ lacking st s m
 lacking_grows st s n zero h = let e : n ≡ 0 = omega arith in rw e (omega arith)
 lacking_grows st s n (suc m) h =
     ⊎_elim

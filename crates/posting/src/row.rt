@@ -1,5 +1,5 @@
 // A row of readings for one segment, posted to a load book whole or not at all.
-ghost use Rattle.std.specs.Prelude.{◌≡◌, ◌+◌, ◌≤◌, length, is_some, is_ok, if◌then◌else◌};
+ghost use Rattle.std.specs.Prelude.{◌≡◌, ◌+◌, ◌≤◌, not, length, is_some, is_ok, if◌then◌else◌};
 ghost use Rattle.std.specs.List.{AllByRecursion};
 ghost use Rattle.book.specs.Cells.{count};
 ghost use Rattle.posting.specs.Rows.{lacking, put_row, row_answer};
@@ -7,17 +7,13 @@ ghost use Rattle.posting.specs.Rows.{lacking, put_row, row_answer};
 use book::LoadBook;
 use refusal::Refusal;
 
-/// 1 for a quarter hour without a reading, 0 for one that has it.
-fn lack<B: LoadBook>(book: &B, segment: u8, quarter_hour: u8) -> u32
+/// Whether a quarter hour has no reading.
+fn lacks<B: LoadBook>(book: &B, segment: u8, quarter_hour: u8) -> bool
     requires segment { segment ≤ 63 }
     requires quarter_hour { quarter_hour ≤ 99 }
-    ensures value { result ≡ (if is_some (B.LoadBook.standing book.now segment quarter_hour) then 0 else 1) }
-    ensures bound { result ≤ 1 }
+    ensures { result ≡ not (is_some (B.LoadBook.standing book.now segment quarter_hour)) }
 {
-    match book.read(segment, quarter_hour) {
-        Ok(Some(_)) => 0,
-        _ => 1,
-    }
+    !matches!(book.read(segment, quarter_hour), Ok(Some(_)))
 }
 
 /// How many of the first quarter hours of a segment have no reading.
@@ -27,11 +23,9 @@ fn count_lacking<B: LoadBook>(book: &B, segment: u8, quarter_hours: u8) -> u32
     ensures value { result ≡ lacking (B.LoadBook.standing book.now) segment quarter_hours }
     ensures bound { result ≤ quarter_hours }
 {
-    let mut lacks = 0u32;
-    for q in 0..quarter_hours {
-        lacks += lack(book, segment, q);
-    }
-    lacks
+    (0..quarter_hours)
+        .filter(|&q| lacks(book, segment, q))
+        .count() as u32
 }
 
 /// Posts the readings, a quarter hour each.
@@ -44,8 +38,8 @@ fn post_each<B: LoadBook>(book: &mut B, segment: u8, readings: &[u32])
     ensures places_kept { B.LoadBook.places book.new ≡ B.LoadBook.places book.old }
     ensures grossing_kept { B.LoadBook.grossing book.new ≡ B.LoadBook.grossing book.old }
 {
-    for q in 0..readings.len() {
-        let _ = book.post(segment, q as u8, readings[q]);
+    for (q, &reading) in readings.iter().enumerate() {
+        let _ = book.post(segment, q as u8, reading);
     }
 }
 

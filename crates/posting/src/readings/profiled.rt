@@ -25,10 +25,8 @@ impl DayReadings {
     {
         let quarter_hours = usize::from(day.quarter_hours());
         let mut list = [0u32; 100];
-        match spread(reading, day, weights, &mut list[0..quarter_hours]) {
-            Ok(()) => Ok(DayReadings { day, list }),
-            Err(refusal) => Err(refusal),
-        }
+        spread(reading, day, weights, &mut list[..quarter_hours])?;
+        Ok(DayReadings { day, list })
     }
 
     /// Posts the readings to a segment of a book, all of them or none, and answers how many quarter
@@ -43,6 +41,6 @@ impl DayReadings {
             return Err(Refusal::SegmentNumber);
         }
         let quarter_hours = usize::from(self.day.quarter_hours());
-        post_row(book, segment, &self.list[0..quarter_hours])
+        post_row(book, segment, &self.list[..quarter_hours])
     }
 }
