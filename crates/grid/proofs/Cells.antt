@@ -7,7 +7,7 @@ use Rattle.std.proofs.lemmas.List.{get_or_default, get_or-replicate}
 use Rattle.std.proofs.lemmas.List.Sums.{sum_by-cons, count_by-le-length}
 use Rattle.std.proofs.lemmas.List.FromFn.{fill_by_all}
 use Rattle.std.proofs.lemmas.Nat.Bits.{bit_at-zero}
-use Rattle.std.proofs.lemmas.Bool.{cond-true, cond-false, cond_both}
+use Rattle.std.proofs.lemmas.Bool.{cond-true, cond-false}
 use Rattle.std.proofs.lemmas.Bool.Decides.{nat_tests}
 use Rattle.book.specs.Answers.{full}
 use Rattle.book.specs.Cells.{Standing, nothing, same_cell, put, count_of, count}
@@ -31,10 +31,6 @@ empty_counted st s q hs hq none =
 -- a reading, if there is one, is at most 1,000,000 Wh; and it stays so as cells are emptied and filled
 abbrev pub Small : Option ℕ → Type 0
 Small c = (n : ℕ) → c ≡ Some n → n ≤ 1000000
-
-pub small_put : (st : Standing) (s q : ℕ) (c : Option ℕ) → ((t p : ℕ) → Small (st t p)) → Small c → (t p : ℕ) → Small (put st s q c t p)
-unfolding put
-small_put st s q c before new t p = cond_both (same_cell s q t p) c (st t p) Small (λ _. new) (λ _. before t p)
 
 pub small_none : Small None
 small_none n e = absurd cc

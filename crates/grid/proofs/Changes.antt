@@ -7,7 +7,8 @@ use Rattle.grid.specs.declared.marks.Marks.{Marks}
 use Rattle.grid.specs.Marks.{Turned}
 use Rattle.grid.specs.Held.{marked, standing_in, places_in}
 use Rattle.grid.specs.Grids.{standing_of}
-use Rattle.grid.proofs.Cells.{Small, small_put, small_none, blank_standing, standing_after}
+use Rattle.book.proofs.Cells.{each_after_put}
+use Rattle.grid.proofs.Cells.{Small, small_none, blank_standing, standing_after}
 
 -- what a grid's ghost fields say
 abbrev Sound : List ℕ → List Marks → Type 0
@@ -37,7 +38,7 @@ module _ (g : Grid) (s q : ℕ) (d after : Marks) (hs : s < 64) (hq : q < 100) (
     sound_filled small =
         let numbers = set g.cells.now place reading in
         let places : places_in numbers ≡ 6400 = rw (length-set, whole) refl in
-        sound_of _ _ _ filled (small_put (standing_of g) s q (Some reading) g.readings (λ n e. let same : reading ≡ n = cc in omega arith)) (omega (arith, count_most (put (standing_of g) s q (Some reading))))
+        sound_of _ _ _ filled (each_after_put Small (standing_of g) s q (Some reading) g.readings (λ n e. let same : reading ≡ n = cc in omega arith)) (omega (arith, count_most (put (standing_of g) s q (Some reading))))
 
   module _ (turned : Turned (get_or g.marks s d) q false after) where
     pub emptied : standing_in g.cells.now (set g.marks s after) ≡ put (standing_of g) s q None
@@ -45,4 +46,4 @@ module _ (g : Grid) (s q : ℕ) (d after : Marks) (hs : s < 64) (hq : q < 100) (
 
     -- an emptied cell takes no place
     pub sound_emptied : Sound g.cells.now (set g.marks s after)
-    sound_emptied = sound_of _ _ _ emptied (small_put (standing_of g) s q None g.readings small_none) (omega (arith, count_put (standing_of g) s q None hs hq, g.housed))
+    sound_emptied = sound_of _ _ _ emptied (each_after_put Small (standing_of g) s q None g.readings small_none) (omega (arith, count_put (standing_of g) s q None hs hq, g.housed))
