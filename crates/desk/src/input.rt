@@ -1,75 +1,50 @@
 // The lines of the standard input.
+ghost use Rattle.std.specs.Iterator.{at_most};
+
 use crate::line::Line;
+use std::alloc::Global;
 use std::io;
-use std::io::{Read, Stdin};
+use std::io::{BufReader, Bytes, Read, Stdin};
 
-/// How many bytes are read at a time.
-const BLOCK: usize = 8_192;
-
+/// The lines, one after the other, the last with or without its line end.
 #[derive(Drop)]
-pub struct Input {
-    stdin: Stdin,
-    block: [u8; BLOCK],
-    /// The bytes from `at` up to `end` are still to come.
-    at: usize,
-    end: usize,
+pub struct Lines {
+    bytes: Bytes<BufReader<Stdin>>,
+    /// How many more lines may be read. No input has as many as at first.
+    left: u64,
 }
 
-fn byte_at(block: &[u8], i: usize) -> u8 {
-    if i < block.len() { block[i] } else { 0 }
+impl Lines {
+    pub fn new(alloc: Global, stdin: Stdin) -> io::Result<Lines> {
+        Ok(Lines {
+            bytes: BufReader::new(alloc, stdin)?.bytes(),
+            left: u64::MAX,
+        })
+    }
 }
 
-impl Input {
-    pub fn new(stdin: Stdin) -> Input {
-        Input {
-            stdin,
-            block: [0; BLOCK],
-            at: 0,
-            end: 0,
+/// The next line, or none at the end of the input.
+fn line(bytes: &mut Bytes<BufReader<Stdin>>) -> io::Result<Option<Line>> {
+    let mut line = Line::empty();
+    let mut begun = false;
+    for byte in bytes {
+        begun = true;
+        match byte? {
+            b'\n' => break,
+            b => line.take(b),
         }
     }
+    line.end_field();
+    Ok(begun.then_some(line))
+}
 
-    /// The next byte, or none at the end of the input.
-    fn byte(&mut self) -> io::Result<Option<u8>> {
-        if self.at >= self.end {
-            self.end = self.stdin.read(&mut self.block)?;
-            self.at = 0;
-            if self.end == 0 {
-                return Ok(None);
-            }
-        }
-        let b = byte_at(&self.block, self.at);
-        self.at += 1;
-        Ok(Some(b))
-    }
+impl Iterator for Lines {
+    type Item = io::Result<Line>;
 
-    /// Reads a line, the last with or without its line end. Answers whether there was one.
-    fn read_line(&mut self, line: &mut Line) -> io::Result<bool> {
-        line.clear();
-        for taken in 0..u64::MAX {
-            let Some(b) = self.byte()? else {
-                line.end_field();
-                return Ok(taken > 0);
-            };
-            if b == b'\n' {
-                break;
-            }
-            line.take(b);
-        }
-        line.end_field();
-        Ok(true)
-    }
+    ghost remaining = { λ s. at_most s.left };
 
-    /// Reads on to the next line that has a field. Answers whether there was one.
-    pub fn next(&mut self, line: &mut Line) -> io::Result<bool> {
-        for _ in 0..u64::MAX {
-            if !self.read_line(line)? {
-                return Ok(false);
-            }
-            if line.count() > 0 {
-                return Ok(true);
-            }
-        }
-        Ok(false)
+    fn next(&mut self) -> Option<io::Result<Line>> {
+        self.left = self.left.checked_sub(1)?;
+        line(&mut self.bytes).transpose()
     }
 }
