@@ -189,10 +189,7 @@ fn tell_statement<B: LoadBook + Drop>(
     match day.statement(quarter_hour, &mut text) {
         Ok(bytes) => {
             say(rt, place, Ok(Reply::Statement { bytes }))?;
-            if bytes <= 2_048 {
-                io::writer(rt).write_all(&text[..bytes])?;
-            }
-            Ok(())
+            io::writer(rt).write_all(text.get(..bytes).unwrap_or(&text))
         }
         Err(refusal) => say(rt, place, Err(Rejection::Refused(refusal))),
     }

@@ -10,7 +10,8 @@ use std::io::{BufReader, Bytes, Read, Stdin};
 #[derive(Drop)]
 pub struct Lines {
     bytes: Bytes<BufReader<Stdin>>,
-    /// How many more lines may be read. No input has as many as at first.
+    /// How many more lines may be read, by which a loop over them is proved to end. No input has as
+    /// many as at first.
     left: u64,
 }
 

@@ -37,6 +37,7 @@ fn main(rt: HostRuntime) -> io::Result<()> {
     let mut cells = [0u32; 6_400];
     let mut slips = [NO_SLIP; 6_400];
     let mut begun = desk.wait()?;
+    // a loop is proved to end, and no input begins as many days
     for _ in 0..u64::MAX {
         let Some(setup) = begun else {
             return Ok(());

@@ -118,14 +118,6 @@ fn wholes<const N: usize>(fields: &[Field]) -> Option<[u64; N]> {
     Some(numbers)
 }
 
-fn small(field: &Field) -> Option<u8> {
-    field.whole().map(to_u8)
-}
-
-fn large(field: &Field) -> Option<u32> {
-    field.whole().map(to_u32)
-}
-
 /// A line that is its word alone.
 fn alone(fields: &[Field], order: Order) -> Option<Request> {
     fields.is_empty().then_some(Request::new(order))
@@ -144,11 +136,11 @@ fn segment(fields: &[Field]) -> Option<Request> {
     };
     let number = number.whole()?;
     let row = Row {
-        qse: small(qse)?,
-        point: small(point)?,
+        qse: to_u8(qse.whole()?),
+        point: to_u8(point.whole()?),
         code: code.character()?,
-        meter: small(meter)?,
-        noie: small(noie)?,
+        meter: to_u8(meter.whole()?),
+        noie: to_u8(noie.whole()?),
     };
     let order = Order::Segment {
         number: to_u8(number),
@@ -197,7 +189,7 @@ fn distribution_factor(
         layer: usize::from(to_u8(layer)),
         letter: letter.character()?,
         quarter_hour: to_u8(quarter_hour),
-        factor: large(factor)?,
+        factor: to_u32(factor.whole()?),
     };
     Some(
         Request::new(order)
@@ -246,7 +238,13 @@ fn post(fields: &[Field]) -> Option<Request> {
 /// longer than any day.
 pub fn weights(line: &Line) -> ArrayVec<u32, WEIGHTS> {
     let mut weights = ArrayVec::new();
-    for weight in line.fields().iter().skip(4).filter_map(large) {
+    for weight in line
+        .fields()
+        .iter()
+        .skip(4)
+        .filter_map(Field::whole)
+        .map(to_u32)
+    {
         let _ = weights.try_push(weight);
     }
     weights
@@ -261,9 +259,9 @@ fn profile(line: &Line) -> Option<Request> {
     }
     let segment = segment.whole()?;
     let reading = ProfiledReading {
-        energy: large(energy)?,
-        profile_total: large(profile_total)?,
-        profile_before: large(profile_before)?,
+        energy: to_u32(energy.whole()?),
+        profile_total: to_u32(profile_total.whole()?),
+        profile_before: to_u32(profile_before.whole()?),
     };
     let order = Order::Profile {
         segment: to_u8(segment),

@@ -19,36 +19,24 @@ impl fmt::Display for Untaken {
     }
 }
 
-/// The segment or site at fault, where the refusal names one that the line does not.
-#[derive(Clone, Copy)]
-struct AtFault(Refusal);
-
-impl fmt::Display for AtFault {
-    fn fmt<W: fmt::Write>(&self, f: &mut fmt::Formatter<W>) -> fmt::Result {
-        match self.0 {
-            Refusal::NoReading { segment, height }
-            | Refusal::NoFactor { segment, height }
-            | Refusal::LoadTooLarge { segment, height } => {
-                write!(f, ", segment {segment} at height {height}")
-            }
-            Refusal::NoFigure { site } => write!(f, ", site {site}"),
-            _ => Ok(()),
-        }
-    }
-}
-
+/// A refusal, with the segment or site at fault where it names one that the line does not.
 fn refused<W: fmt::Write>(refusal: Refusal, f: &mut fmt::Formatter<W>) -> fmt::Result {
+    write!(f, "sent back, {}", refusal.words())?;
+    match refusal {
+        Refusal::NoReading { segment, height }
+        | Refusal::NoFactor { segment, height }
+        | Refusal::LoadTooLarge { segment, height } => {
+            write!(f, ", segment {segment} at height {height}")?;
+        }
+        Refusal::NoFigure { site } => write!(f, ", site {site}")?,
+        _ => {}
+    }
     let Answer {
         number,
         subject,
         height,
     } = refusal.answer();
-    write!(
-        f,
-        "sent back, {}{} = refused {number} {subject} {height}",
-        refusal.words(),
-        AtFault(refusal)
-    )
+    write!(f, " = refused {number} {subject} {height}")
 }
 
 impl fmt::Display for Rejection {
