@@ -1,5 +1,7 @@
 -- What a field is read as, byte by byte, and what that makes of all its bytes. Assumes nothing.
-use Rattle.std.specs.Prelude.{ℕ, ◌+◌, ◌-◌, ◌*◌, ◌^◌, min, Bool, true, false, cond, not, ◌&&◌, ◌||◌, List, [], ◌∷◌, Some, None, fold, Option, ◌==◌, nat_le, nat_lt}
+use Rattle.std.specs.Prelude.{ℕ, ◌+◌, ◌-◌, ◌*◌, ◌^◌, min, pos, neg_ℤ, ℤ, Bool, true, false, cond, ◌&&◌, ◌||◌, List, [], ◌∷◌, Some, None, fold, Option, ◌==◌, nat_le, nat_lt}
+use Rattle.desk.specs.declared.field.Numeral.{Numeral}
+use Rattle.desk.specs.declared.field.Numeral.TheVariants.{Nothing, Minus, Whole, Negative, Other}
 use Rattle.desk.specs.declared.field.Field.{Field}
 
 abbrev pub is_digit_byte : ℕ → Bool
@@ -9,30 +11,61 @@ is_digit_byte b = nat_le 48 b && nat_le b 57
 abbrev pub appended : ℕ → ℕ → ℕ
 appended n d = min (n * 10 + d) (2 ^ 64 - 1)
 
--- a minus sign, and the first byte
-abbrev pub is_sign_byte : Field → ℕ → Bool
-is_sign_byte f b = f.characters == 0 && b == 45
+-- whether there is no byte yet
+abbrev pub is_nothing : Numeral → Bool
+is_nothing Nothing = true
+is_nothing Minus = false
+is_nothing (Whole n) = false
+is_nothing (Negative n) = false
+is_nothing Other = false
 
--- a byte that begins a character counts, and of more than two characters no more is kept
-abbrev pub character_count : ℕ → ℕ → ℕ
-character_count n b = cond (n == 0) 1 (cond (nat_lt b 128 || nat_le 192 b) 2 n)
+-- a digit goes to the end of a number, or begins one
+abbrev pub numeral_with_digit : Numeral → ℕ → Numeral
+numeral_with_digit Nothing d = Whole (appended 0 d)
+numeral_with_digit Minus d = Negative (appended 0 d)
+numeral_with_digit (Whole n) d = Whole (appended n d)
+numeral_with_digit (Negative n) d = Negative (appended n d)
+numeral_with_digit Other d = Other
+
+-- a minus sign counts where it is the first byte
+abbrev pub numeral_with : Numeral → ℕ → Numeral
+numeral_with m b = cond (is_digit_byte b) (numeral_with_digit m (b - 48)) (cond (is_nothing m && b == 45) Minus Other)
+
+-- a byte that begins a character of its own, in UTF-8
+abbrev pub starts_character : ℕ → Bool
+starts_character b = nat_lt b 128 || nat_le 192 b
+
+-- the first byte counts as one character, and of more than one nothing is kept
+abbrev pub character_with : Field → ℕ → Option ℕ
+character_with f b = cond (is_nothing f.numeral) (Some b) (cond (starts_character b) None f.character)
 
 abbrev pub empty_field : Field
-empty_field = record { value = 0; minus = false; digit = false; other = false; first = 0; characters = 0 }
+empty_field = record { numeral = Nothing; character = None }
 
 abbrev pub with_byte : Field → ℕ → Field
-with_byte f b = record {
-  value = cond (is_digit_byte b) (appended f.value (b - 48)) f.value;
-  minus = f.minus || is_sign_byte f b;
-  digit = f.digit || is_digit_byte b;
-  other = f.other || not (is_digit_byte b || is_sign_byte f b);
-  first = cond (f.characters == 0) b f.first;
-  characters = character_count f.characters b;
-}
+with_byte f b = record { numeral = numeral_with f.numeral b; character = character_with f b }
 
 -- the whole number that a field is: digits only
+abbrev pub whole_by : Numeral → Option ℕ
+whole_by Nothing = None
+whole_by Minus = None
+whole_by (Whole n) = Some n
+whole_by (Negative n) = None
+whole_by Other = None
+
 abbrev pub whole_of : Field → Option ℕ
-whole_of f = cond (f.digit && (not f.other && not f.minus)) (Some f.value) None
+whole_of f = whole_by f.numeral
+
+-- a figure by its size and its sign, within what its place holds
+abbrev pub figure_by : Numeral → Option ℤ
+figure_by Nothing = None
+figure_by Minus = None
+figure_by (Whole n) = Some (pos (min n (2 ^ 31 - 1)))
+figure_by (Negative n) = Some (neg_ℤ (pos (min n (2 ^ 31 - 1))))
+figure_by Other = None
+
+abbrev pub figure_of : Field → Option ℤ
+figure_of f = figure_by f.numeral
 
 -- ---- all the bytes of a field
 abbrev pub field_of : List ℕ → Field

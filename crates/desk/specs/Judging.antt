@@ -15,8 +15,9 @@ use Rattle.desk.specs.declared.order.Order.{Order}
 use Rattle.desk.specs.declared.order.Order.TheVariants as order
 use Rattle.desk.specs.declared.reply.Reply.{Reply}
 use Rattle.desk.specs.declared.reply.Reply.TheVariants as reply
-use Rattle.desk.specs.declared.reply.Untaken.{Untaken}
-use Rattle.desk.specs.declared.reply.Untaken.TheVariants as untaken
+use Rattle.desk.specs.declared.reply.Rejection.{Rejection}
+use Rattle.desk.specs.declared.reply.Rejection.TheVariants.{Unlawful, Refused}
+use Rattle.desk.specs.declared.reply.Untaken.TheVariants.{State}
 
 -- the call of a day that an order is, with the weights of its line; none for an order on a draft, nor for a
 -- statement, which changes nothing and is written apart
@@ -46,12 +47,6 @@ answer_in setting course None = answer.Unlawful
 answer_in setting course (Some c) = answer_to setting course c
 
 -- ---- the answer as it is said
-abbrev pub untaken_at : DayState → Untaken
-untaken_at day.OpenInitial = untaken.OpenInitial
-untaken_at day.SealedInitial = untaken.SealedInitial
-untaken_at day.OpenFinal = untaken.OpenFinal
-untaken_at day.SealedFinal = untaken.SealedFinal
-
 -- a reopening is what is done on a day sealed as initial, and a seal on any other
 abbrev pub done_in : DayState → Reply
 done_in day.OpenInitial = reply.Sealed
@@ -59,13 +54,14 @@ done_in day.SealedInitial = reply.Reopened
 done_in day.OpenFinal = reply.Sealed
 done_in day.SealedFinal = reply.Sealed
 
-abbrev pub or_refused : {X : Type 0} → (X → Reply) → Result X Refusal → Reply
-or_refused said (Ok x) = said x
-or_refused said (Err refusal) = reply.Refused refusal
+abbrev pub or_refused : {X : Type 0} → (X → Reply) → Result X Refusal → Result Reply Rejection
+or_refused said (Ok x) = Ok (said x)
+or_refused said (Err refusal) = Err (Refused refusal)
 
-abbrev pub reply_of : DayState → Answer → Reply
-reply_of state answer.Unlawful = reply.Unlawful (untaken_at state)
-reply_of state answer.Done = done_in state
+-- a call that is not taken is unlawful by the state that the day is in
+abbrev pub reply_of : DayState → Answer → Result Reply Rejection
+reply_of state answer.Unlawful = Err (Unlawful (State state))
+reply_of state answer.Done = Ok (done_in state)
 reply_of state (answer.Posted r) = or_refused (λ x. reply.Posted x) r
 reply_of state (answer.Profiled r) = or_refused (λ x. reply.Profiled x) r
 reply_of state (answer.Withdrawn r) = or_refused (λ x. reply.Withdrawn x) r

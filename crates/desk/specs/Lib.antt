@@ -1,4 +1,3 @@
-pub mod Clock
 pub mod Fields
 pub mod Lines
 pub mod Judging

@@ -5,13 +5,13 @@ ghost use Rattle.run.specs.Courses.{answer_to, stepped};
 ghost use Rattle.run.specs.Holding.{setting_of_any, course_of_any, state_of};
 ghost use Rattle.desk.specs.Judging.{call_of, course_after, answer_in, reply_of};
 
-use crate::input::Input;
+use crate::input::Lines;
 use crate::line::Line;
 use crate::order;
-use crate::order::{Order, Request, WEIGHTS};
-use crate::place::{Place, Subject};
-use crate::reply::{Reply, Untaken, reply_to, untaken_in};
-use crate::setup::{Setup, has_clock};
+use crate::order::{Order, Request};
+use crate::place::Place;
+use crate::reply::{Rejection, Reply, Untaken, reply_to};
+use crate::setup::Setup;
 use book::LoadBook;
 use day::Day;
 use roll::Draft;
@@ -19,88 +19,38 @@ use run::{AnyDay, Call, Entry};
 use std::io;
 use std::io::Write;
 
-/// What a line is about, on a day that has clock times or not.
-fn place_of(request: &Request, has_clock: bool) -> Place {
-    Place {
-        subject: request.subject,
-        quarter_hour: request.quarter_hour,
-        has_clock,
+fn say(rt: &impl Print, place: Place, answer: Result<Reply, Rejection>) -> io::Result<()> {
+    match answer {
+        Ok(reply) => println!(rt; "{place}{reply}"),
+        Err(rejection) => println!(rt; "{place}{rejection}"),
     }
 }
 
-fn say(rt: &HostRuntime, place: Place, reply: Reply) -> io::Result<()> {
-    println!(rt; "{place}{reply}")
-}
-
-/// A line that is not understood names nothing.
-fn say_unknown(rt: &HostRuntime) -> io::Result<()> {
-    let reply = Reply::Unknown;
-    println!(rt; "{reply}")
-}
-
-/// The day that a line begins, or what else it is answered where there is no day yet.
-fn first_day(order: &Order) -> Result<Setup, Reply> {
-    match *order {
-        Order::Day { quarter_hours } => match Setup::begin(quarter_hours) {
-            Ok(setup) => Ok(setup),
-            Err(refusal) => Err(Reply::Refused(refusal)),
-        },
-        _ => Err(Reply::Unlawful(Untaken::NoDay)),
+/// What a line asks for. One that is not understood is answered here, and a blank one is not.
+fn understood(rt: &impl Print, line: &Line) -> io::Result<Option<Request>> {
+    let request = order::read(line);
+    if request.is_none() && !line.is_empty() {
+        say(rt, Place::default(), Err(Rejection::Unknown))?;
     }
+    Ok(request)
 }
 
-/// Before the first day.
-pub fn wait(rt: &HostRuntime, input: &mut Input, line: &mut Line) -> io::Result<Option<Setup>> {
-    for _ in 0..u64::MAX {
-        if !input.next(line)? {
-            return Ok(None);
+/// The day that a line begins, or nothing where it is refused.
+fn begun(rt: &impl Print, place: Place, quarter_hours: u8) -> io::Result<Option<Setup>> {
+    match Setup::begin(quarter_hours) {
+        Ok(setup) => {
+            say(rt, place, Ok(Reply::Begun { quarter_hours }))?;
+            Ok(Some(setup))
         }
-        let Some(request) = order::read(line) else {
-            say_unknown(rt)?;
-            continue;
-        };
-        let place = place_of(&request, false);
-        match first_day(&request.order) {
-            Ok(setup) => {
-                let quarter_hours = setup.draft.length().quarter_hours();
-                say(rt, place, Reply::Begun { quarter_hours })?;
-                return Ok(Some(setup));
-            }
-            Err(reply) => say(rt, place, reply)?,
+        Err(refusal) => {
+            say(rt, place, Err(Rejection::Refused(refusal)))?;
+            Ok(None)
         }
     }
-    Ok(None)
-}
-
-/// On a draft, until its day is to be opened.
-pub fn draft(
-    rt: &HostRuntime,
-    input: &mut Input,
-    line: &mut Line,
-    begun: Setup,
-) -> io::Result<Option<Setup>> {
-    let mut setup = begun;
-    for _ in 0..u64::MAX {
-        if !input.next(line)? {
-            return Ok(None);
-        }
-        let Some(request) = order::read(line) else {
-            say_unknown(rt)?;
-            continue;
-        };
-        let place = place_of(&request, has_clock(setup.draft.length()));
-        if let Order::Open = request.order {
-            say(rt, place, Reply::Opened)?;
-            return Ok(Some(setup));
-        }
-        let reply = setup.take(&request.order);
-        say(rt, place, reply)?;
-    }
-    Ok(None)
 }
 
 /// One call on an opened day.
-fn call<B: LoadBook + Drop>(day: AnyDay<B>, call: &Call) -> (AnyDay<B>, Reply)
+fn call<B: LoadBook + Drop>(day: AnyDay<B>, call: &Call) -> (AnyDay<B>, Result<Reply, Rejection>)
     ensures course { course_of_any B.LoadBook result.0 ≡ stepped (setting_of_any B.LoadBook day) (course_of_any B.LoadBook day) call.now }
     ensures setting { setting_of_any B.LoadBook result.0 ≡ setting_of_any B.LoadBook day }
     ensures reply { result.1 ≡ reply_of (state_of day) (answer_to (setting_of_any B.LoadBook day) (course_of_any B.LoadBook day) call.now) }
@@ -111,7 +61,11 @@ fn call<B: LoadBook + Drop>(day: AnyDay<B>, call: &Call) -> (AnyDay<B>, Reply)
 }
 
 /// One line on an opened day, other than `day`. What is no call of a day belongs to a draft.
-fn respond<B: LoadBook + Drop>(day: AnyDay<B>, order: &Order, weights: &[u32]) -> (AnyDay<B>, Reply)
+fn respond<B: LoadBook + Drop>(
+    day: AnyDay<B>,
+    order: &Order,
+    weights: &[u32],
+) -> (AnyDay<B>, Result<Reply, Rejection>)
     ensures course { course_of_any B.LoadBook result.0 ≡ course_after (setting_of_any B.LoadBook day) (course_of_any B.LoadBook day) (call_of order.now weights.entry) }
     ensures setting { setting_of_any B.LoadBook result.0 ≡ setting_of_any B.LoadBook day }
     ensures reply { result.1 ≡ reply_of (state_of day) (answer_in (setting_of_any B.LoadBook day) (course_of_any B.LoadBook day) (call_of order.now weights.entry)) }
@@ -128,14 +82,105 @@ fn respond<B: LoadBook + Drop>(day: AnyDay<B>, order: &Order, weights: &[u32]) -
         }
         _ => {
             let state = day.state();
-            (day, Reply::Unlawful(untaken_in(state)))
+            (day, Err(Rejection::Unlawful(Untaken::State(state))))
         }
+    }
+}
+
+/// The desk, with what it writes to and what it reads.
+#[derive(Drop)]
+pub struct Desk<'a, R> {
+    rt: &'a R,
+    lines: Lines,
+}
+
+impl<'a, R: Print> Desk<'a, R> {
+    pub fn new(rt: &'a R, lines: Lines) -> Desk<'a, R> {
+        Desk { rt, lines }
+    }
+
+    /// Before the first day.
+    pub fn wait(&mut self) -> io::Result<Option<Setup>> {
+        for line in &mut self.lines {
+            let Some(request) = understood(self.rt, &line?)? else {
+                continue;
+            };
+            let place = request.place(false);
+            match request.order {
+                Order::Day { quarter_hours } => {
+                    if let Some(setup) = begun(self.rt, place, quarter_hours)? {
+                        return Ok(Some(setup));
+                    }
+                }
+                _ => say(self.rt, place, Err(Rejection::Unlawful(Untaken::NoDay)))?,
+            }
+        }
+        Ok(None)
+    }
+
+    /// On a draft, until its day is to be opened.
+    pub fn draft(&mut self, begun: Setup) -> io::Result<Option<Setup>> {
+        let mut setup = begun;
+        for line in &mut self.lines {
+            let Some(request) = understood(self.rt, &line?)? else {
+                continue;
+            };
+            let place = request.place(setup.has_clock());
+            if let Order::Open = request.order {
+                say(self.rt, place, Ok(Reply::Opened))?;
+                return Ok(Some(setup));
+            }
+            let answer = setup.take(&request.order);
+            say(self.rt, place, answer)?;
+        }
+        Ok(None)
+    }
+
+    /// Opens the day of a draft over a book, under its layers, and goes on until another is begun.
+    pub fn open<B: LoadBook + Drop>(&mut self, setup: Setup, book: B) -> io::Result<Option<Setup>> {
+        let has_clock = setup.has_clock();
+        let Setup { draft, layers, .. } = setup;
+        self.serve(draft, layers.over(book), has_clock)
+    }
+
+    /// On an opened day, until another is begun.
+    fn serve<B: LoadBook + Drop>(
+        &mut self,
+        draft: Draft,
+        book: B,
+        has_clock: bool,
+    ) -> io::Result<Option<Setup>> {
+        let mut day = AnyDay::OpenInitial(Day::open(draft, book));
+        for line in &mut self.lines {
+            let line = line?;
+            let Some(request) = understood(self.rt, &line)? else {
+                continue;
+            };
+            let place = request.place(has_clock);
+            match request.order {
+                Order::Day { quarter_hours } => {
+                    if let Some(setup) = begun(self.rt, place, quarter_hours)? {
+                        return Ok(Some(setup));
+                    }
+                }
+                Order::Statement { quarter_hour } => {
+                    tell_statement(self.rt, &day, place, quarter_hour)?;
+                }
+                order => {
+                    let weights = order::weights(&line);
+                    let (next, answer) = respond(day, &order, &weights);
+                    day = next;
+                    say(self.rt, place, answer)?;
+                }
+            }
+        }
+        Ok(None)
     }
 }
 
 /// Answers with the statement of a quarter hour, and writes its text behind the answer.
 fn tell_statement<B: LoadBook + Drop>(
-    rt: &HostRuntime,
+    rt: &impl Print,
     day: &AnyDay<B>,
     place: Place,
     quarter_hour: u8,
@@ -143,68 +188,9 @@ fn tell_statement<B: LoadBook + Drop>(
     let mut text = [0; 2_048];
     match day.statement(quarter_hour, &mut text) {
         Ok(bytes) => {
-            say(rt, place, Reply::Statement { bytes })?;
-            if bytes <= 2_048 {
-                rt.stdout().write_all(&text[0..bytes])?;
-            }
-            Ok(())
+            say(rt, place, Ok(Reply::Statement { bytes }))?;
+            io::writer(rt).write_all(text.get(..bytes).unwrap_or(&text))
         }
-        Err(refusal) => say(rt, place, Reply::Refused(refusal)),
+        Err(refusal) => say(rt, place, Err(Rejection::Refused(refusal))),
     }
-}
-
-/// Opens the day of a draft over a book, under its layers, and goes on until another is begun.
-pub fn open<B: LoadBook + Drop>(
-    rt: &HostRuntime,
-    input: &mut Input,
-    line: &mut Line,
-    setup: Setup,
-    book: B,
-) -> io::Result<Option<Setup>> {
-    let Setup { draft, layers, .. } = setup;
-    serve(rt, input, line, draft, layers.over(book))
-}
-
-/// On an opened day, until another is begun.
-fn serve<B: LoadBook + Drop>(
-    rt: &HostRuntime,
-    input: &mut Input,
-    line: &mut Line,
-    draft: Draft,
-    book: B,
-) -> io::Result<Option<Setup>> {
-    let has_clock = has_clock(draft.length());
-    let mut day = AnyDay::OpenInitial(Day::open(draft, book));
-    let mut list = [0; WEIGHTS];
-    for _ in 0..u64::MAX {
-        if !input.next(line)? {
-            return Ok(None);
-        }
-        let Some(request) = order::read(line) else {
-            say_unknown(rt)?;
-            continue;
-        };
-        let place = place_of(&request, has_clock);
-        if let Order::Day { quarter_hours } = request.order {
-            match Setup::begin(quarter_hours) {
-                Ok(setup) => {
-                    say(rt, place, Reply::Begun { quarter_hours })?;
-                    return Ok(Some(setup));
-                }
-                Err(refusal) => {
-                    say(rt, place, Reply::Refused(refusal))?;
-                    continue;
-                }
-            }
-        }
-        if let Order::Statement { quarter_hour } = request.order {
-            tell_statement(rt, &day, place, quarter_hour)?;
-            continue;
-        }
-        let weights = order::weights(line, &mut list);
-        let (next, reply) = respond(day, &request.order, weights);
-        day = next;
-        say(rt, place, reply)?;
-    }
-    Ok(None)
 }

@@ -1,34 +1,28 @@
 // The lines of the standard input.
+ghost use Rattle.std.specs.Iterator.{at_most};
+
 use crate::line::Line;
 use std::io;
 use std::io::{Read, Stdin};
 
 /// How many bytes are read at a time.
+// The block stands in place, since memory stays fixed: std's BufReader takes one from the heap, and
+// with `bytes` a line of 50 MB took it three times as long.
 const BLOCK: usize = 8_192;
 
+/// The bytes, of which those of the block from `at` up to `end` are still to come.
 #[derive(Drop)]
-pub struct Input {
+struct Bytes {
     stdin: Stdin,
     block: [u8; BLOCK],
-    /// The bytes from `at` up to `end` are still to come.
     at: usize,
     end: usize,
+    /// How many more may be read, by which a loop over them is proved to end. No input has as many
+    /// as at first.
+    left: u64,
 }
 
-fn byte_at(block: &[u8], i: usize) -> u8 {
-    if i < block.len() { block[i] } else { 0 }
-}
-
-impl Input {
-    pub fn new(stdin: Stdin) -> Input {
-        Input {
-            stdin,
-            block: [0; BLOCK],
-            at: 0,
-            end: 0,
-        }
-    }
-
+impl Bytes {
     /// The next byte, or none at the end of the input.
     fn byte(&mut self) -> io::Result<Option<u8>> {
         if self.at >= self.end {
@@ -38,38 +32,68 @@ impl Input {
                 return Ok(None);
             }
         }
-        let b = byte_at(&self.block, self.at);
+        let byte = self.block.get(self.at).copied();
         self.at += 1;
-        Ok(Some(b))
+        Ok(byte)
     }
+}
 
-    /// Reads a line, the last with or without its line end. Answers whether there was one.
-    fn read_line(&mut self, line: &mut Line) -> io::Result<bool> {
-        line.clear();
-        for taken in 0..u64::MAX {
-            let Some(b) = self.byte()? else {
-                line.end_field();
-                return Ok(taken > 0);
-            };
-            if b == b'\n' {
-                break;
-            }
-            line.take(b);
-        }
-        line.end_field();
-        Ok(true)
+impl Iterator for Bytes {
+    type Item = io::Result<u8>;
+
+    ghost remaining = { λ s. at_most s.left };
+
+    fn next(&mut self) -> Option<io::Result<u8>> {
+        self.left = self.left.checked_sub(1)?;
+        self.byte().transpose()
     }
+}
 
-    /// Reads on to the next line that has a field. Answers whether there was one.
-    pub fn next(&mut self, line: &mut Line) -> io::Result<bool> {
-        for _ in 0..u64::MAX {
-            if !self.read_line(line)? {
-                return Ok(false);
-            }
-            if line.count() > 0 {
-                return Ok(true);
-            }
+/// The lines, one after the other, the last with or without its line end.
+#[derive(Drop)]
+pub struct Lines {
+    bytes: Bytes,
+    /// How many more may be read, as for the bytes.
+    left: u64,
+}
+
+impl Lines {
+    pub fn new(stdin: Stdin) -> Lines {
+        Lines {
+            bytes: Bytes {
+                stdin,
+                block: [0; BLOCK],
+                at: 0,
+                end: 0,
+                left: u64::MAX,
+            },
+            left: u64::MAX,
         }
-        Ok(false)
+    }
+}
+
+/// The next line, or none at the end of the input.
+fn line(bytes: &mut Bytes) -> io::Result<Option<Line>> {
+    let mut line = Line::empty();
+    let mut begun = false;
+    for byte in bytes {
+        begun = true;
+        match byte? {
+            b'\n' => break,
+            b => line.take(b),
+        }
+    }
+    line.end_field();
+    Ok(begun.then_some(line))
+}
+
+impl Iterator for Lines {
+    type Item = io::Result<Line>;
+
+    ghost remaining = { λ s. at_most s.left };
+
+    fn next(&mut self) -> Option<io::Result<Line>> {
+        self.left = self.left.checked_sub(1)?;
+        line(&mut self.bytes).transpose()
     }
 }

@@ -1,8 +1,9 @@
 // What a line asks for, by its form alone.
+use crate::field::Field;
 use crate::line::Line;
-use crate::number::{to_i32, to_u8, to_u32};
-use crate::place::Subject;
-use crate::word::{Word, word_of};
+use crate::number::{to_u8, to_u32};
+use crate::place::{Place, Subject};
+use arrayvec::ArrayVec;
 use profile::ProfiledReading;
 use roll::Row;
 use run::{Call, Entry, Question};
@@ -11,7 +12,7 @@ use run::{Call, Entry, Question};
 const MOST_SLIPS: u64 = 6_400;
 
 /// Room for one weight more than the longest day has.
-pub const WEIGHTS: usize = 101;
+const WEIGHTS: usize = 101;
 
 #[derive(Clone, Copy)]
 pub enum Order {
@@ -63,285 +64,332 @@ pub enum Order {
 #[derive(Clone, Copy)]
 pub struct Request {
     pub order: Order,
-    pub subject: Subject,
-    pub quarter_hour: Option<u64>,
+    subject: Option<Subject>,
+    quarter_hour: Option<u64>,
 }
 
-fn plain(subject: Subject, order: Order) -> Option<Request> {
-    Some(Request {
-        order,
-        subject,
-        quarter_hour: None,
-    })
-}
+impl Request {
+    /// An order whose line names nothing.
+    fn new(order: Order) -> Request {
+        Request {
+            order,
+            subject: None,
+            quarter_hour: None,
+        }
+    }
 
-fn at(subject: Subject, quarter_hour: u64, order: Order) -> Option<Request> {
-    Some(Request {
-        order,
-        subject,
-        quarter_hour: Some(quarter_hour),
-    })
-}
+    fn entry(entry: Entry<'static>) -> Request {
+        Request::new(Order::Call(Call::Entry(entry)))
+    }
 
-fn entry(subject: Subject, quarter_hour: u64, entry: Entry<'static>) -> Option<Request> {
-    at(subject, quarter_hour, Order::Call(Call::Entry(entry)))
-}
+    fn question(question: Question) -> Request {
+        Request::new(Order::Call(Call::Question(question)))
+    }
 
-fn question(subject: Subject, quarter_hour: u64, question: Question) -> Option<Request> {
-    at(subject, quarter_hour, Order::Call(Call::Question(question)))
-}
+    fn of(self, subject: Subject) -> Request {
+        Request {
+            subject: Some(subject),
+            ..self
+        }
+    }
 
-/// That a line has so many fields after its word.
-fn has(line: &Line, fields: u8) -> Option<()> {
-    if line.count() == usize::from(fields) + 1 {
-        Some(())
-    } else {
-        None
+    fn at(self, quarter_hour: u64) -> Request {
+        Request {
+            quarter_hour: Some(quarter_hour),
+            ..self
+        }
+    }
+
+    /// What the line is about, on a day that has clock times or not.
+    pub fn place(&self, has_clock: bool) -> Place {
+        Place::new(self.subject, self.quarter_hour, has_clock)
     }
 }
 
-fn small(line: &Line, i: usize) -> Option<u8> {
-    Some(to_u8(line.whole(i)?))
-}
-
-fn large(line: &Line, i: usize) -> Option<u32> {
-    Some(to_u32(line.whole(i)?))
+/// The whole numbers that the fields are, if there are so many.
+fn wholes<const N: usize>(fields: &[Field]) -> Option<[u64; N]> {
+    if fields.len() != N {
+        return None;
+    }
+    let mut numbers = [0; N];
+    for (i, field) in fields.iter().enumerate() {
+        numbers[i] = field.whole()?;
+    }
+    Some(numbers)
 }
 
 /// A line that is its word alone.
-fn alone(line: &Line, order: Order) -> Option<Request> {
-    has(line, 0)?;
-    plain(Subject::Nothing, order)
+fn alone(fields: &[Field], order: Order) -> Option<Request> {
+    fields.is_empty().then_some(Request::new(order))
 }
 
-fn day(line: &Line) -> Option<Request> {
-    has(line, 1)?;
-    let quarter_hours = small(line, 1)?;
-    plain(Subject::Nothing, Order::Day { quarter_hours })
+fn day(fields: &[Field]) -> Option<Request> {
+    let [quarter_hours] = wholes::<1>(fields)?;
+    Some(Request::new(Order::Day {
+        quarter_hours: to_u8(quarter_hours),
+    }))
 }
 
-fn segment(line: &Line) -> Option<Request> {
-    has(line, 6)?;
-    let number = line.whole(1)?;
+fn segment(fields: &[Field]) -> Option<Request> {
+    let [number, qse, point, code, meter, noie] = fields else {
+        return None;
+    };
+    let number = number.whole()?;
     let row = Row {
-        qse: small(line, 2)?,
-        point: small(line, 3)?,
-        code: line.character(4)?,
-        meter: small(line, 5)?,
-        noie: small(line, 6)?,
+        qse: to_u8(qse.whole()?),
+        point: to_u8(point.whole()?),
+        code: code.character()?,
+        meter: to_u8(meter.whole()?),
+        noie: to_u8(noie.whole()?),
     };
     let order = Order::Segment {
         number: to_u8(number),
         row,
     };
-    plain(Subject::Segment(number), order)
+    Some(Request::new(order).of(Subject::Segment(number)))
 }
 
-fn site(line: &Line) -> Option<Request> {
-    has(line, 1)?;
-    let number = line.whole(1)?;
+fn site(fields: &[Field]) -> Option<Request> {
+    let [number] = wholes::<1>(fields)?;
     let order = Order::Site {
         number: to_u8(number),
     };
-    plain(Subject::Site(number), order)
+    Some(Request::new(order).of(Subject::Site(number)))
 }
 
-fn slips(line: &Line) -> Option<Request> {
-    has(line, 1)?;
-    let records = line.whole(1)?;
+fn slips(fields: &[Field]) -> Option<Request> {
+    let [records] = wholes::<1>(fields)?;
     if records > MOST_SLIPS {
         return None;
     }
-    let records = records as usize;
-    plain(Subject::Nothing, Order::Slips { records })
+    Some(Request::new(Order::Slips {
+        records: records as usize,
+    }))
 }
 
 /// With a code a factor is meant for a distribution layer, without one for transmission.
-fn factor(line: &Line) -> Option<Request> {
-    if line.count() == 5 {
-        distribution_factor(line)
-    } else {
-        transmission_factor(line)
+fn factor(fields: &[Field]) -> Option<Request> {
+    match fields {
+        [layer, letter, quarter_hour, factor] => {
+            distribution_factor(layer, letter, quarter_hour, factor)
+        }
+        _ => transmission_factor(fields),
     }
 }
 
-fn distribution_factor(line: &Line) -> Option<Request> {
-    has(line, 4)?;
-    let layer = line.whole(1)?;
-    let letter = line.character(2)?;
-    let quarter_hour = line.whole(3)?;
-    let factor = large(line, 4)?;
+fn distribution_factor(
+    layer: &Field,
+    letter: &Field,
+    quarter_hour: &Field,
+    factor: &Field,
+) -> Option<Request> {
+    let layer = layer.whole()?;
+    let quarter_hour = quarter_hour.whole()?;
     let order = Order::DistributionFactor {
         layer: usize::from(to_u8(layer)),
-        letter,
+        letter: letter.character()?,
         quarter_hour: to_u8(quarter_hour),
-        factor,
+        factor: to_u32(factor.whole()?),
     };
-    at(Subject::Layer(layer), quarter_hour, order)
+    Some(
+        Request::new(order)
+            .of(Subject::Layer(layer))
+            .at(quarter_hour),
+    )
 }
 
-fn transmission_factor(line: &Line) -> Option<Request> {
-    has(line, 3)?;
-    let layer = line.whole(1)?;
-    let quarter_hour = line.whole(2)?;
-    let factor = large(line, 3)?;
+fn transmission_factor(fields: &[Field]) -> Option<Request> {
+    let [layer, quarter_hour, factor] = wholes::<3>(fields)?;
     let order = Order::TransmissionFactor {
         layer: usize::from(to_u8(layer)),
         quarter_hour: to_u8(quarter_hour),
-        factor,
+        factor: to_u32(factor),
     };
-    at(Subject::Layer(layer), quarter_hour, order)
+    Some(
+        Request::new(order)
+            .of(Subject::Layer(layer))
+            .at(quarter_hour),
+    )
 }
 
-fn codes(line: &Line) -> Option<Request> {
-    has(line, 1)?;
-    let layer = line.whole(1)?;
+fn codes(fields: &[Field]) -> Option<Request> {
+    let [layer] = wholes::<1>(fields)?;
     let order = Order::Codes {
         layer: usize::from(to_u8(layer)),
     };
-    plain(Subject::Layer(layer), order)
+    Some(Request::new(order).of(Subject::Layer(layer)))
 }
 
-fn post(line: &Line) -> Option<Request> {
-    has(line, 3)?;
-    let segment = line.whole(1)?;
-    let quarter_hour = line.whole(2)?;
-    let reading = large(line, 3)?;
+fn post(fields: &[Field]) -> Option<Request> {
+    let [segment, quarter_hour, reading] = wholes::<3>(fields)?;
     let post = Entry::Post {
         segment: to_u8(segment),
         quarter_hour: to_u8(quarter_hour),
-        reading,
+        reading: to_u32(reading),
     };
-    entry(Subject::Segment(segment), quarter_hour, post)
+    Some(
+        Request::entry(post)
+            .of(Subject::Segment(segment))
+            .at(quarter_hour),
+    )
 }
 
 /// The weights of a profile, as many as there is room for: a list that does not hold them all is
 /// longer than any day.
-pub fn weights<'a>(line: &Line, list: &'a mut [u32; WEIGHTS]) -> &'a [u32] {
-    let mut count = 0;
-    for i in 0..WEIGHTS {
-        if let Some(weight) = large(line, i + 5) {
-            list[i] = weight;
-            count = i + 1;
-        }
+pub fn weights(line: &Line) -> ArrayVec<u32, WEIGHTS> {
+    let mut weights = ArrayVec::new();
+    for weight in line
+        .fields()
+        .iter()
+        .skip(4)
+        .filter_map(Field::whole)
+        .map(to_u32)
+    {
+        let _ = weights.try_push(weight);
     }
-    let all = &list[..];
-    if count < all.len() {
-        &all[0..count]
-    } else {
-        all
-    }
+    weights
 }
 
 fn profile(line: &Line) -> Option<Request> {
-    if !line.all_whole_from(1) {
+    let [segment, energy, profile_total, profile_before, weights @ ..] = line.fields() else {
+        return None;
+    };
+    if line.has_stray() || weights.iter().any(|weight| weight.whole().is_none()) {
         return None;
     }
-    let segment = line.whole(1)?;
+    let segment = segment.whole()?;
     let reading = ProfiledReading {
-        energy: large(line, 2)?,
-        profile_total: large(line, 3)?,
-        profile_before: large(line, 4)?,
+        energy: to_u32(energy.whole()?),
+        profile_total: to_u32(profile_total.whole()?),
+        profile_before: to_u32(profile_before.whole()?),
     };
     let order = Order::Profile {
         segment: to_u8(segment),
         reading,
     };
-    plain(Subject::Segment(segment), order)
+    Some(Request::new(order).of(Subject::Segment(segment)))
 }
 
-fn withdraw(line: &Line) -> Option<Request> {
-    has(line, 2)?;
-    let segment = line.whole(1)?;
-    let quarter_hour = line.whole(2)?;
+fn withdraw(fields: &[Field]) -> Option<Request> {
+    let [segment, quarter_hour] = wholes::<2>(fields)?;
     let withdraw = Entry::Withdraw {
         segment: to_u8(segment),
         quarter_hour: to_u8(quarter_hour),
     };
-    entry(Subject::Segment(segment), quarter_hour, withdraw)
+    Some(
+        Request::entry(withdraw)
+            .of(Subject::Segment(segment))
+            .at(quarter_hour),
+    )
 }
 
-fn figure(line: &Line) -> Option<Request> {
-    has(line, 3)?;
-    let site = line.whole(1)?;
-    let quarter_hour = line.whole(2)?;
-    let (size, minus) = line.signed(3)?;
+fn figure(fields: &[Field]) -> Option<Request> {
+    let [site, quarter_hour, wh] = fields else {
+        return None;
+    };
+    let site = site.whole()?;
+    let quarter_hour = quarter_hour.whole()?;
     let figure = Entry::Figure {
         site: to_u8(site),
         quarter_hour: to_u8(quarter_hour),
-        wh: to_i32(size, minus),
+        wh: wh.figure()?,
     };
-    entry(Subject::Site(site), quarter_hour, figure)
+    Some(
+        Request::entry(figure)
+            .of(Subject::Site(site))
+            .at(quarter_hour),
+    )
 }
 
-fn strike(line: &Line) -> Option<Request> {
-    has(line, 2)?;
-    let site = line.whole(1)?;
-    let quarter_hour = line.whole(2)?;
+fn strike(fields: &[Field]) -> Option<Request> {
+    let [site, quarter_hour] = wholes::<2>(fields)?;
     let strike = Entry::Strike {
         site: to_u8(site),
         quarter_hour: to_u8(quarter_hour),
     };
-    entry(Subject::Site(site), quarter_hour, strike)
+    Some(
+        Request::entry(strike)
+            .of(Subject::Site(site))
+            .at(quarter_hour),
+    )
 }
 
-fn rtaml(line: &Line) -> Option<Request> {
-    has(line, 3)?;
-    let qse = line.whole(1)?;
-    let point = line.whole(2)?;
-    let quarter_hour = line.whole(3)?;
+fn rtaml(fields: &[Field]) -> Option<Request> {
+    let [qse, point, quarter_hour] = wholes::<3>(fields)?;
     let rtaml = Question::Rtaml {
         quarter_hour: to_u8(quarter_hour),
         qse: to_u8(qse),
         point: to_u8(point),
     };
-    question(Subject::Pair { qse, point }, quarter_hour, rtaml)
+    Some(
+        Request::question(rtaml)
+            .of(Subject::Pair { qse, point })
+            .at(quarter_hour),
+    )
 }
 
 /// A question that names a quarter hour and nothing else.
-fn about(line: &Line, word: Word) -> Option<Request> {
-    has(line, 1)?;
-    let asked = line.whole(1)?;
-    let quarter_hour = to_u8(asked);
-    match word {
-        Word::Loads => question(
-            Subject::Nothing,
-            asked,
-            Question::AdjustedLoads { quarter_hour },
+fn about<F: FnOnce(u8) -> Question>(fields: &[Field], question: F) -> Option<Request>
+    requires { F.IsAlwaysCallable question }
+{
+    let [quarter_hour] = wholes::<1>(fields)?;
+    let question = question(to_u8(quarter_hour));
+    Some(Request::question(question).at(quarter_hour))
+}
+
+fn statement(fields: &[Field]) -> Option<Request> {
+    let [quarter_hour] = wholes::<1>(fields)?;
+    let order = Order::Statement {
+        quarter_hour: to_u8(quarter_hour),
+    };
+    Some(Request::new(order).at(quarter_hour))
+}
+
+/// A line of a draft.
+fn on_draft(line: &Line) -> Option<Request> {
+    let fields = line.fields();
+    match line.word() {
+        b"day" => day(fields),
+        b"segment" => segment(fields),
+        b"site" => site(fields),
+        b"grid" => alone(fields, Order::Grid),
+        b"slips" => slips(fields),
+        b"distribution" => alone(fields, Order::Distribution),
+        b"transmission" => alone(fields, Order::Transmission),
+        b"factor" => factor(fields),
+        b"codes" => codes(fields),
+        b"open" => alone(fields, Order::Open),
+        _ => None,
+    }
+}
+
+/// A line of an opened day.
+fn on_day(line: &Line) -> Option<Request> {
+    let fields = line.fields();
+    match line.word() {
+        b"post" => post(fields),
+        b"profile" => profile(line),
+        b"withdraw" => withdraw(fields),
+        b"figure" => figure(fields),
+        b"strike" => strike(fields),
+        b"seal" => alone(fields, Order::Call(Call::Seal)),
+        b"reopen" => alone(fields, Order::Call(Call::Reopen)),
+        b"loads" => about(
+            fields,
+            |quarter_hour| Question::AdjustedLoads { quarter_hour },
         ),
-        Word::Ufe => question(
-            Subject::Nothing,
-            asked,
-            Question::GenerationAndUfe { quarter_hour },
+        b"rtaml" => rtaml(fields),
+        b"ufe" => about(
+            fields,
+            |quarter_hour| Question::GenerationAndUfe { quarter_hour },
         ),
-        Word::Shares => question(Subject::Nothing, asked, Question::Shares { quarter_hour }),
-        Word::Statement => at(Subject::Nothing, asked, Order::Statement { quarter_hour }),
+        b"shares" => about(fields, |quarter_hour| Question::Shares { quarter_hour }),
+        b"statement" => statement(fields),
         _ => None,
     }
 }
 
 /// What a line asks for, or nothing where it is not understood.
 pub fn read(line: &Line) -> Option<Request> {
-    let word = word_of(line.word())?;
-    match word {
-        Word::Day => day(line),
-        Word::Segment => segment(line),
-        Word::Site => site(line),
-        Word::Grid => alone(line, Order::Grid),
-        Word::Slips => slips(line),
-        Word::Distribution => alone(line, Order::Distribution),
-        Word::Transmission => alone(line, Order::Transmission),
-        Word::Factor => factor(line),
-        Word::Codes => codes(line),
-        Word::Open => alone(line, Order::Open),
-        Word::Post => post(line),
-        Word::Profile => profile(line),
-        Word::Withdraw => withdraw(line),
-        Word::Figure => figure(line),
-        Word::Strike => strike(line),
-        Word::Seal => alone(line, Order::Call(Call::Seal)),
-        Word::Reopen => alone(line, Order::Call(Call::Reopen)),
-        Word::Rtaml => rtaml(line),
-        Word::Loads | Word::Ufe | Word::Shares | Word::Statement => about(line, word),
-    }
+    on_day(line).or_else(|| on_draft(line))
 }

@@ -1,6 +1,6 @@
 // What a line is about, said in front of its answer: which segment, site or layer, and when.
-use crate::clock::clock_time;
 use crate::field::LARGEST;
+use clock::clock_time;
 use std::fmt;
 
 /// A number as it was typed.
@@ -9,7 +9,7 @@ struct Typed(u64);
 
 impl fmt::Display for Typed {
     fn fmt<W: fmt::Write>(&self, f: &mut fmt::Formatter<W>) -> fmt::Result {
-        let number = self.0;
+        let Typed(number) = *self;
         if number == LARGEST {
             write!(f, "{number} or more")
         } else {
@@ -20,7 +20,6 @@ impl fmt::Display for Typed {
 
 #[derive(Clone, Copy)]
 pub enum Subject {
-    Nothing,
     Segment(u64),
     Site(u64),
     Layer(u64),
@@ -30,72 +29,76 @@ pub enum Subject {
 impl fmt::Display for Subject {
     fn fmt<W: fmt::Write>(&self, f: &mut fmt::Formatter<W>) -> fmt::Result {
         match *self {
-            Subject::Nothing => Ok(()),
-            Subject::Segment(number) => {
-                let number = Typed(number);
-                write!(f, "segment {number}")
-            }
-            Subject::Site(number) => {
-                let number = Typed(number);
-                write!(f, "site {number}")
-            }
-            Subject::Layer(number) => {
-                let number = Typed(number);
-                write!(f, "layer {number}")
-            }
+            Subject::Segment(number) => write!(f, "segment {}", Typed(number)),
+            Subject::Site(number) => write!(f, "site {}", Typed(number)),
+            Subject::Layer(number) => write!(f, "layer {}", Typed(number)),
             Subject::Pair { qse, point } => {
-                let qse = Typed(qse);
-                let point = Typed(point);
-                write!(f, "QSE {qse} at settlement point {point}")
+                write!(f, "QSE {} at settlement point {}", Typed(qse), Typed(point))
             }
         }
     }
 }
 
-/// A quarter hour as it was typed. Only a day of 96 has clock times.
+/// A quarter hour as it was typed.
 #[derive(Clone, Copy)]
-struct QuarterHour {
-    number: u64,
-    has_clock: bool,
+enum QuarterHour {
+    /// With its clock time, on a day that has them.
+    Timed(u8),
+    /// On any other day, or past the end of the day.
+    Numbered(u64),
+}
+
+impl QuarterHour {
+    /// Only a day of 96 has clock times.
+    fn new(number: u64, has_clock: bool) -> QuarterHour {
+        match u8::try_from(number) {
+            Ok(timed) if has_clock && timed < 96 => QuarterHour::Timed(timed),
+            _ => QuarterHour::Numbered(number),
+        }
+    }
 }
 
 impl fmt::Display for QuarterHour {
     fn fmt<W: fmt::Write>(&self, f: &mut fmt::Formatter<W>) -> fmt::Result {
-        let number = self.number;
-        if self.has_clock && number < 96 {
-            let from = clock_time(number);
-            let to = clock_time(number + 1);
-            write!(f, "quarter hour {number}, {from} to {to}")
-        } else {
-            let number = Typed(number);
-            write!(f, "quarter hour {number}")
+        match *self {
+            QuarterHour::Timed(number) => {
+                let from = u64::from(number);
+                write!(
+                    f,
+                    "quarter hour {number}, {} to {}",
+                    clock_time(from),
+                    clock_time(from + 1)
+                )
+            }
+            QuarterHour::Numbered(number) => write!(f, "quarter hour {}", Typed(number)),
         }
     }
 }
 
 /// All that stands in front of an answer, and nothing where the line names nothing.
-#[derive(Clone, Copy)]
+#[derive(Clone, Copy, Default)]
 pub struct Place {
-    pub subject: Subject,
-    pub quarter_hour: Option<u64>,
-    pub has_clock: bool,
+    subject: Option<Subject>,
+    quarter_hour: Option<QuarterHour>,
+}
+
+impl Place {
+    /// On a day that has clock times or not.
+    pub fn new(subject: Option<Subject>, quarter_hour: Option<u64>, has_clock: bool) -> Place {
+        Place {
+            subject,
+            quarter_hour: quarter_hour.map(|number| QuarterHour::new(number, has_clock)),
+        }
+    }
 }
 
 impl fmt::Display for Place {
     fn fmt<W: fmt::Write>(&self, f: &mut fmt::Formatter<W>) -> fmt::Result {
-        let subject = self.subject;
-        let has_clock = self.has_clock;
-        match (subject, self.quarter_hour) {
-            (Subject::Nothing, None) => Ok(()),
-            (_, None) => write!(f, "{subject}: "),
-            (Subject::Nothing, Some(number)) => {
-                let quarter_hour = QuarterHour { number, has_clock };
-                write!(f, "{quarter_hour}: ")
-            }
-            (_, Some(number)) => {
-                let quarter_hour = QuarterHour { number, has_clock };
-                write!(f, "{subject}, {quarter_hour}: ")
-            }
+        match (self.subject, self.quarter_hour) {
+            (None, None) => Ok(()),
+            (Some(subject), None) => write!(f, "{subject}: "),
+            (None, Some(quarter_hour)) => write!(f, "{quarter_hour}: "),
+            (Some(subject), Some(quarter_hour)) => write!(f, "{subject}, {quarter_hour}: "),
         }
     }
 }

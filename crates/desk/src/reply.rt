@@ -1,6 +1,7 @@
 // What a line is answered: words for the person, and after ` = ` the answer for a script.
 ghost use Rattle.std.specs.Prelude.{◌≡◌};
-ghost use Rattle.desk.specs.Judging.{untaken_at, or_refused, reply_of};
+ghost use Rattle.desk.specs.declared.reply.Rejection.TheVariants.{Refused, Unlawful};
+ghost use Rattle.desk.specs.Judging.{reply_of};
 
 use balance::Ufe;
 use refusal::Refusal;
@@ -12,19 +13,38 @@ pub enum Untaken {
     NoDay,
     Draft,
     FourLayers,
-    OpenInitial,
-    SealedInitial,
-    OpenFinal,
-    SealedFinal,
+    State(DayState),
 }
 
+/// Why a line is not answered with `ok`. It has changed nothing.
 #[derive(Clone, Copy)]
-pub enum Reply {
+pub enum Rejection {
     Unknown,
     /// No layer of the kind that is meant has the number.
     NoLayer,
     Unlawful(Untaken),
     Refused(Refusal),
+}
+
+impl From<Untaken> for Rejection {
+    ghost from_gives = { λ untaken rejection. rejection ≡ Unlawful untaken };
+
+    fn from(untaken: Untaken) -> Rejection {
+        Rejection::Unlawful(untaken)
+    }
+}
+
+impl From<Refusal> for Rejection {
+    ghost from_gives = { λ refusal rejection. rejection ≡ Refused refusal };
+
+    fn from(refusal: Refusal) -> Rejection {
+        Rejection::Refused(refusal)
+    }
+}
+
+/// What was done, or what stands.
+#[derive(Clone, Copy)]
+pub enum Reply {
     // on a draft
     Begun { quarter_hours: u8 },
     OnRoll,
@@ -51,117 +71,24 @@ pub enum Reply {
     Statement { bytes: usize },
 }
 
-/// The state of an opened day as the reason why it does not take a line.
-pub fn untaken_in(state: DayState) -> Untaken
-    ensures { result ≡ untaken_at state }
-{
-    match state {
-        DayState::OpenInitial => Untaken::OpenInitial,
-        DayState::SealedInitial => Untaken::SealedInitial,
-        DayState::OpenFinal => Untaken::OpenFinal,
-        DayState::SealedFinal => Untaken::SealedFinal,
-    }
-}
-
-fn posted(res: Result<Option<u32>, Refusal>) -> Reply
-    ensures { result ≡ or_refused (λ x. Reply.Posted x) res }
-{
-    match res {
-        Ok(before) => Reply::Posted(before),
-        Err(refusal) => Reply::Refused(refusal),
-    }
-}
-
-fn profiled(res: Result<u32, Refusal>) -> Reply
-    ensures { result ≡ or_refused (λ x. Reply.Profiled x) res }
-{
-    match res {
-        Ok(before) => Reply::Profiled(before),
-        Err(refusal) => Reply::Refused(refusal),
-    }
-}
-
-fn withdrawn(res: Result<u32, Refusal>) -> Reply
-    ensures { result ≡ or_refused (λ x. Reply.Withdrawn x) res }
-{
-    match res {
-        Ok(reading) => Reply::Withdrawn(reading),
-        Err(refusal) => Reply::Refused(refusal),
-    }
-}
-
-fn figured(res: Result<Option<i32>, Refusal>) -> Reply
-    ensures { result ≡ or_refused (λ x. Reply.Figured x) res }
-{
-    match res {
-        Ok(before) => Reply::Figured(before),
-        Err(refusal) => Reply::Refused(refusal),
-    }
-}
-
-fn struck(res: Result<i32, Refusal>) -> Reply
-    ensures { result ≡ or_refused (λ x. Reply.Struck x) res }
-{
-    match res {
-        Ok(figure) => Reply::Struck(figure),
-        Err(refusal) => Reply::Refused(refusal),
-    }
-}
-
-fn loads(res: Result<[i64; 64], Refusal>) -> Reply
-    ensures { result ≡ or_refused (λ x. Reply.Loads x) res }
-{
-    match res {
-        Ok(list) => Reply::Loads(list),
-        Err(refusal) => Reply::Refused(refusal),
-    }
-}
-
-fn rtaml(res: Result<i64, Refusal>) -> Reply
-    ensures { result ≡ or_refused (λ x. Reply.Rtaml x) res }
-{
-    match res {
-        Ok(rtaml) => Reply::Rtaml(rtaml),
-        Err(refusal) => Reply::Refused(refusal),
-    }
-}
-
-fn generation_and_ufe(res: Result<Ufe, Refusal>) -> Reply
-    ensures { result ≡ or_refused (λ x. Reply.GenerationAndUfe x) res }
-{
-    match res {
-        Ok(ufe) => Reply::GenerationAndUfe(ufe),
-        Err(refusal) => Reply::Refused(refusal),
-    }
-}
-
-fn shares(res: Result<[i64; 16], Refusal>) -> Reply
-    ensures { result ≡ or_refused (λ x. Reply.Shares x) res }
-{
-    match res {
-        Ok(list) => Reply::Shares(list),
-        Err(refusal) => Reply::Refused(refusal),
-    }
-}
-
 /// A day's answer. One that is done was a reopening on a day sealed as initial, and else a seal.
-pub fn reply_to(answer: &Answer, before: DayState) -> Reply
+pub fn reply_to(answer: &Answer, before: DayState) -> Result<Reply, Rejection>
     ensures { result ≡ reply_of before answer.now }
 {
     match *answer {
-        Answer::Unlawful => Reply::Unlawful(untaken_in(before)),
+        Answer::Unlawful => Err(Rejection::Unlawful(Untaken::State(before))),
         Answer::Done => match before {
-            DayState::SealedInitial => Reply::Reopened,
-            _ => Reply::Sealed,
+            DayState::SealedInitial => Ok(Reply::Reopened),
+            _ => Ok(Reply::Sealed),
         },
-        Answer::Posted(result) => posted(result),
-        Answer::Profiled(result) => profiled(result),
-        Answer::Withdrawn(result) => withdrawn(result),
-        Answer::Figured(result) => figured(result),
-        Answer::Struck(result) => struck(result),
-        Answer::AdjustedLoads(result) => loads(result),
-        Answer::Rtaml(result) => rtaml(result),
-        Answer::GenerationAndUfe(result) => generation_and_ufe(result),
-        Answer::Shares(result) => shares(result),
+        Answer::Posted(before) => Ok(Reply::Posted(before?)),
+        Answer::Profiled(corrections) => Ok(Reply::Profiled(corrections?)),
+        Answer::Withdrawn(reading) => Ok(Reply::Withdrawn(reading?)),
+        Answer::Figured(before) => Ok(Reply::Figured(before?)),
+        Answer::Struck(figure) => Ok(Reply::Struck(figure?)),
+        Answer::AdjustedLoads(loads) => Ok(Reply::Loads(loads?)),
+        Answer::Rtaml(rtaml) => Ok(Reply::Rtaml(rtaml?)),
+        Answer::GenerationAndUfe(ufe) => Ok(Reply::GenerationAndUfe(ufe?)),
+        Answer::Shares(shares) => Ok(Reply::Shares(shares?)),
     }
 }

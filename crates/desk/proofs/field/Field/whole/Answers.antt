@@ -1,16 +1,16 @@
-use Rattle.std.proofs.Common.{◌≡◌, ℕ, Some, None, Option, ap, ◌∙◌, rules}
+use Rattle.std.proofs.Common.{◌≡◌, ℕ, Some, None, Option, ◌∙◌, rules}
 use Rattle.desk.specs.Fields.{whole_of}
-use Rattle.desk.proofs.Reading.{whole_field}
+use Rattle.desk.proofs.Reading.{whole_read}
 use Rattle.desk.proofs.field.Field.whole.Goals as goal
 
-pub returns-then-not-self-2 : goal.returns-then-not-self-2
-returns-then-not-self-2 c =
+pub returns-in-Whole-clause-text : goal.returns-in-Whole-clause-text
+returns-in-Whole-clause-text c =
     let self = c.args.self.now in
-    let field : ◌≡◌ {A = Option ℕ} (Some self.value) (whole_of self) = search rules in
-    record { field = field; text = λ bytes e. field ∙ ap whole_of e ∙ whole_field bytes }
+    let field : ◌≡◌ {A = Option ℕ} (Some c.in-Whole.value) (whole_of self) = search rules in
+    λ bytes e. field ∙ whole_read self bytes e
 
-pub returns-else-self : goal.returns-else-self
-returns-else-self c =
+pub returns-in_default : goal.returns-in_default
+returns-in_default c =
     let self = c.args.self.now in
     let field : ◌≡◌ {A = Option ℕ} None (whole_of self) = search rules in
-    record { field = field; text = λ bytes e. field ∙ ap whole_of e ∙ whole_field bytes }
+    record { field = field; text = λ bytes e. field ∙ whole_read self bytes e }

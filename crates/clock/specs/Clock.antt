@@ -1,6 +1,6 @@
 -- Clock times and how they are written. Assumes nothing.
 use Rattle.std.specs.Prelude.{ℕ, ◌*◌, ◌/◌, ◌%◌, List, ◌++◌, codes, decimal}
-use Rattle.desk.specs.declared.clock.ClockTime.{ClockTime}
+use Rattle.clock.specs.declared.ClockTime.{ClockTime}
 
 -- where a quarter hour begins: four to an hour, 15 minutes each
 abbrev pub clock_of : ℕ → ClockTime

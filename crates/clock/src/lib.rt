@@ -1,11 +1,13 @@
-// Clock times.
+// The clock times of a day of 24 hours, and how they are written.
+#![tactic(auto)]
+
 ghost use Rattle.std.specs.Prelude.{◌≡◌, Some};
-ghost use Rattle.desk.specs.Clock.{clock_of, clock_text, two_digits};
+ghost use Rattle.clock.specs.Clock.{clock_of, clock_text};
 
 use std::fmt;
 
 /// A time of the clock on a day of 24 hours, 24:00 among them.
-#[derive(Clone, Copy)]
+#[derive(Clone, Copy, PartialEq, Eq, Debug)]
 pub struct ClockTime {
     pub hour: u64,
     pub minute: u64,
@@ -21,26 +23,11 @@ pub fn clock_time(quarter_hour: u64) -> ClockTime
     }
 }
 
-/// Two digits of a clock time.
-#[derive(Clone, Copy)]
-struct Pair(u64);
-
-impl fmt::Display for Pair {
-    ghost output = { λ p. Some (two_digits p.0) };
-
-    fn fmt<W: fmt::Write>(&self, f: &mut fmt::Formatter<W>) -> fmt::Result {
-        let tens = self.0 / 10;
-        let ones = self.0 % 10;
-        write!(f, "{tens}{ones}")
-    }
-}
-
 impl fmt::Display for ClockTime {
     ghost output = { λ t. Some (clock_text t) };
 
     fn fmt<W: fmt::Write>(&self, f: &mut fmt::Formatter<W>) -> fmt::Result {
-        let hour = Pair(self.hour);
-        let minute = Pair(self.minute);
-        write!(f, "{hour}:{minute}")
+        let ClockTime { hour, minute } = *self;
+        write!(f, "{hour:02}:{minute:02}")
     }
 }
