@@ -8,6 +8,8 @@ use book::LoadBook;
 use refusal::Refusal;
 
 /// What an adjustment goes by: a table, from which it makes its own answer of the one below.
+// Each says its gross, and not only the loss of a cell: no loss passes a fault on at its own height,
+// as having no table does.
 pub trait Adjustment {
     /// What the table makes of one cell, by what the book below makes of it.
     ghost adjusted: { Self → ℕ → ℕ → Gross → Gross };

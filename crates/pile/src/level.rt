@@ -1,5 +1,5 @@
 // One step of a pile.
-ghost use Rattle.pile.specs.Bounds.{bounded_by};
+ghost use Rattle.pile.specs.Bounds.{layer_bounded};
 ghost use Rattle.pile.specs.Layers.{meaning_of, adjusted_by};
 
 use crate::layers::Layer;
@@ -12,7 +12,7 @@ pub type Level<B> = Adjusted<B, Option<Layer>>;
 impl Adjustment for Layer {
     ghost adjusted = { λ l. adjusted_by (meaning_of l) };
 
-    ghost bounded = { λ l. bounded_by (meaning_of l) };
+    ghost bounded = { λ l. layer_bounded (meaning_of l) };
 
     fn gross(
         &self,

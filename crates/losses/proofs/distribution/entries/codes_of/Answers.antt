@@ -20,6 +20,6 @@ pub returns : goal.returns
 returns c =
     let codes = c.loop-segment.codes in
     let rows = rows_of c.args.roll.now in
-    let many : length codes ≡ length rows = c.loop-segment.invariant.many ∙ sym c.args.roll.now.places.0 in
+    let many : length codes ≡ length rows = omega arith in
     ext_get_or None codes (map roll_code rows) (many ∙ sym (length-map rows roll_code))
     (λ i h. c.loop-segment.invariant.below i (omega arith) ∙ sym (get_or-map roll_code rows i None None (omega arith)))
