@@ -1,5 +1,5 @@
 -- From the last call of a list to the law over it. Assumes nothing.
-use Rattle.std.proofs.Common.{◌≡◌, ℕ, ◌<◌, Bool, true, false, cond, List, length, get_or, take, ℤ, pos, is_some, Some, None, Ok, fold, Option, sym, refl, ap, ◌∙◌, le_refl}
+use Rattle.std.proofs.Common.{◌≡◌, ℕ, ◌<◌, Bool, true, false, cond, List, length, get_or, take, ℤ, pos, is_some, Some, None, Ok, fold, Option, Result, sym, refl, ap, ◌∙◌, le_refl}
 use Rattle.std.proofs.lemmas.List.{take_all}
 use Rattle.refusal.specs.declared.Refusal.{Refusal}
 use Rattle.roll.specs.Ranges.{ranged}
@@ -24,13 +24,15 @@ use Rattle.run.specs.Law.{slate_at, Answered, Left}
 use Rattle.run.proofs.Courses.{SoFar}
 
 -- what was answered with a list was not refused, and the list is the one that was to be answered
-loads_given : (o : Option Refusal) (x loads : List ℤ) → answer.AdjustedLoads (Ok loads) ≡ answer.AdjustedLoads (ok_unless o x) → (o ≡ None) × (loads ≡ x)
-loads_given None x loads h = (refl, cc)
-loads_given (Some e) x loads h = (cc, cc)
+given : (o : Option Refusal) (x list : List ℤ) → Ok list ≡ ok_unless o x → (o ≡ None) × (list ≡ x)
+given None x list h = (refl, cc)
+given (Some e) x list h = (cc, cc)
 
-shares_given : (o : Option Refusal) (x shares : List ℤ) → answer.Shares (Ok shares) ≡ answer.Shares (ok_unless o x) → (o ≡ None) × (shares ≡ x)
-shares_given None x shares h = (refl, cc)
-shares_given (Some e) x shares h = (cc, cc)
+same_loads : (r t : Result (List ℤ) Refusal) → answer.AdjustedLoads r ≡ answer.AdjustedLoads t → r ≡ t
+same_loads r t h = cc
+
+same_shares : (r t : Result (List ℤ) Refusal) → answer.Shares r ≡ answer.Shares t → r ≡ t
+same_shares r t h = cc
 
 some_if : (b : Bool) (state : DayState) → is_some (cond b (Some state) None) ≡ b
 some_if true state = refl
@@ -46,15 +48,15 @@ module _ (setting : Setting) (in_table : (s : ℕ) → ranged (get_or setting.ro
 
     loads : (i q : ℕ) (c : Call) (a : Answer) (list : List ℤ) → i < length calls → get_or calls i c ≡ call.Question (ask.AdjustedLoads q) → get_or answers i a ≡ answer.AdjustedLoads (Ok list) → sum_of list ≡ (sheet_at setting (slate i) q).generation
     loads i q c a list h asked got =
-        let both = loads_given (loads_refusal setting (slate i) q 64) (loads_at setting (slate i) q) list
-        (sym got ∙ agrees i c a h ∙ ap (answer_to setting (course_of setting (take i calls))) asked) in
+        let both = given (loads_refusal setting (slate i) q 64) (loads_at setting (slate i) q) list
+        (same_loads _ _ (sym got ∙ agrees i c a h ∙ ap (answer_to setting (course_of setting (take i calls))) asked)) in
         let none : refusal_of_quarter (quarter i q) ≡ None = none_later (late setting.day q) (refusal_of_quarter (quarter i q)) both.0 in
         ap sum_of both.1 ∙ loads_come_to (quarter i q) in_table none
 
     shares : (i q : ℕ) (c : Call) (a : Answer) (list : List ℤ) → i < length calls → get_or calls i c ≡ call.Question (ask.Shares q) → get_or answers i a ≡ answer.Shares (Ok list) → sum_of list ≡ pos 1000000000
     shares i q c a list h asked got =
-        let both = shares_given (shares_refusal setting (slate i) q 16) (shares_at setting (slate i) q) list
-        (sym got ∙ agrees i c a h ∙ ap (answer_to setting (course_of setting (take i calls))) asked) in
+        let both = given (shares_refusal setting (slate i) q 16) (shares_at setting (slate i) q) list
+        (same_shares _ _ (sym got ∙ agrees i c a h ∙ ap (answer_to setting (course_of setting (take i calls))) asked)) in
         let none : refusal_of_shares (quarter i q) ≡ None = none_later (late setting.day q) (refusal_of_shares (quarter i q)) both.0 in
         ap sum_of both.1 ∙ shares_come_to (quarter i q) in_table none
 
@@ -67,7 +69,7 @@ module _ (setting : Setting) (in_table : (s : ℕ) → ranged (get_or setting.ro
       shares_add_up = shares;
     }
 
-  module _ {B : Type 0} (meaning : Ghosts B) (answers : List Answer) (run : Run B) (many : length answers ≡ length calls) (so_far : SoFar meaning setting opened calls answers run.day run.lawful (length calls)) where
+  module _ {B : Type 0} (meaning : Ghosts B) (answers : List Answer) (run : Run B) (many : length answers ≡ length calls) (so_far : SoFar meaning setting calls answers run.day run.lawful (length calls)) where
     pub run_answered : Answered setting calls answers
     run_answered = answered answers many (λ i c a h. so_far.answered i c a h)
 

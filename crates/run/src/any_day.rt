@@ -11,6 +11,9 @@ use book::LoadBook;
 use day::{Day, Final, Initial, Open, Sealed};
 use refusal::Refusal;
 
+// Each state is a type of its own, so what days of every state do is one match over the four here. A
+// macro could write the two matches that have the same call in each arm, and would be no plainer.
+/// A day that has been opened, with its state.
 #[derive(Drop)]
 pub enum AnyDay<B: LoadBook + Drop> {
     OpenInitial(Day<B, Open<Initial>>),

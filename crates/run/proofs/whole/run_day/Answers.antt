@@ -1,36 +1,29 @@
-use Rattle.std.proofs.Common.{◌≡◌, ℕ, ◌+◌, ◌<◌, Bool, ◌&&◌, List, length, set, sym, ap, ◌∙◌, subst, arith}
+use Rattle.std.proofs.Common.{◌≡◌, ℕ, ◌+◌, ◌<◌, Bool, ◌&&◌, length, set, sym, ap, ◌∙◌, subst, arith}
 use Rattle.roll.specs.Drafts.{day_of, roll_of}
-use Rattle.day.specs.Holding.{setting_by, day_setting}
-use Rattle.day.specs.Slate.{Setting, Slate}
-use Rattle.run.specs.declared.any_day.AnyDay.TheVariants.{OpenInitial}
-use Rattle.run.specs.declared.call.Answer.{Answer}
+use Rattle.day.specs.Holding.{setting_by}
+use Rattle.day.specs.Slate.{Setting}
 use Rattle.run.specs.declared.call.Call.TheVariants.{Entry}
-use Rattle.run.specs.declared.call.DayState.TheVariants as state
 use Rattle.run.specs.declared.call.Entry.TheVariants.{Post}
 use Rattle.run.specs.declared.whole.Run.{Run}
 use Rattle.run.specs.Calls.{taken}
-use Rattle.run.specs.Courses.{Course, opened}
-use Rattle.run.specs.Holding.{course_of_any}
 use Rattle.run.proofs.Courses.{SoFar, so_far_none, so_far_more}
 use Rattle.run.proofs.Runs.{run_answered, run_left}
 use Rattle.run.proofs.whole.run_day.Goals as goal
 
 pub loop-i-init : goal.loop-i-init
-loop-i-init g c = so_far_none g.B.LoadBook c.args.calls.now c.args.answers.now (OpenInitial c.open.result)
+loop-i-init g c = so_far_none g.B.LoadBook c.args.calls.now _ c.args.answers.now c.open.result c.open.ensures
 
 pub loop-i-preserved : goal.loop-i-preserved
 loop-i-preserved g c =
+    let setting : Setting = setting_by (day_of c.args.draft) (roll_of c.args.draft) (g.B.LoadBook.places c.args.book) (g.B.LoadBook.grossing c.args.book) in
     let calls = c.args.calls.now in
     let answers = c.loop-i.answers in
     let i = c.loop-i.i in
-    let first = OpenInitial c.open.result in
-    let setting : Setting = day_setting g.B.LoadBook c.open.result in
-    let start : Course = course_of_any g.B.LoadBook first in
     let place : i < length answers = omega (arith, c.loop-i-test.true, c.loop-i.auto.answers, c.if-answers-calls.false) in
-    let more : SoFar g.B.LoadBook setting start calls (set answers i c.step-next.result.1) c.step-next.result.0 (c.loop-i.lawful && taken c.step-next.result.1) (i + 1) =
-    so_far_more g.B.LoadBook calls setting start answers c.loop-i.day c.loop-i.lawful i (Entry (Post 0 0 0)) c.loop-i.invariant c.loop-i-test.true place
-    c.step-next.result.0 c.step-next.result.1 c.step-next.ensures.answer c.step-next.ensures.course c.step-next.ensures.setting in
-    subst (λ (b : Bool). SoFar g.B.LoadBook setting start calls (set answers i c.step-next.result.1) c.step-next.result.0 b (i + 1)) (ap (λ (b : Bool). c.loop-i.lawful && b) (sym c.is_taken-lawful.ensures)) more
+    let more : SoFar g.B.LoadBook setting calls (set answers i c.step-next.result.1) c.step-next.result.0 (c.loop-i.lawful && taken c.step-next.result.1) (i + 1) =
+    so_far_more g.B.LoadBook calls setting answers c.loop-i.day c.loop-i.lawful i (Entry (Post 0 0 0)) c.loop-i.invariant c.loop-i-test.true place
+    c.step-next.result.0 c.step-next.result.1 c.step-next.ensures in
+    subst (λ (b : Bool). SoFar g.B.LoadBook setting calls (set answers i c.step-next.result.1) c.step-next.result.0 b (i + 1)) (ap (λ (b : Bool). c.loop-i.lawful && b) (sym c.is_taken-lawful.ensures)) more
 
 pub returns : goal.returns
 returns g c =
@@ -38,15 +31,9 @@ returns g c =
     let calls = c.args.calls.now in
     let answers = c.loop-i.answers in
     let run : Run g.row.B.Denot = record { day = c.loop-i.day; lawful = c.loop-i.lawful } in
-    let first = OpenInitial c.open.result in
     let whole : c.loop-i.i ≡ length calls = omega (arith, c.loop-i-test.false, c.loop-i.auto.i-end) in
-    let begun : course_of_any g.B.LoadBook first ≡ opened = ap (λ (x : Slate). record { state = state.OpenInitial; slate = x }) c.open.ensures.slate in
-    let fixed : SoFar g.B.LoadBook setting (course_of_any g.B.LoadBook first) calls answers run.day run.lawful c.loop-i.i =
-    subst (λ (x : Setting). SoFar g.B.LoadBook x (course_of_any g.B.LoadBook first) calls answers run.day run.lawful c.loop-i.i) c.open.ensures.setting c.loop-i.invariant in
-    let blank : SoFar g.B.LoadBook setting opened calls answers run.day run.lawful c.loop-i.i =
-    subst (λ (x : Course). SoFar g.B.LoadBook setting x calls answers run.day run.lawful c.loop-i.i) begun fixed in
-    let done : SoFar g.B.LoadBook setting opened calls answers run.day run.lawful (length calls) =
-    subst (λ (n : ℕ). SoFar g.B.LoadBook setting opened calls answers run.day run.lawful n) whole blank in
+    let done : SoFar g.B.LoadBook setting calls answers run.day run.lawful (length calls) =
+    subst (λ (n : ℕ). SoFar g.B.LoadBook setting calls answers run.day run.lawful n) whole c.loop-i.invariant in
     let many : length answers ≡ length calls = c.loop-i.auto.answers ∙ c.if-answers-calls.false in
     let in_table = c.args.draft.roll.rows_in_range in (
       run_answered setting in_table calls g.B.LoadBook answers run many done,

@@ -1,7 +1,8 @@
-use Rattle.run.specs.Holding.{setting_of_any, course_of_any}
+use Rattle.roll.specs.Drafts.{day_of, roll_of}
+use Rattle.day.specs.Holding.{setting_by}
 use Rattle.run.proofs.Courses.{SoFar}
 use Rattle.run.proofs.whole.run_day.Given as goal
 
 abbrev pub invariant-loop-i : goal.invariant-loop-i
 invariant-loop-i g l =
-    SoFar g.B.LoadBook (setting_of_any g.B.LoadBook l.initial.day) (course_of_any g.B.LoadBook l.initial.day) l.calls l.answers l.day l.lawful l.i
+    SoFar g.B.LoadBook (setting_by (day_of l.fn.draft) (roll_of l.fn.draft) (g.B.LoadBook.places l.fn.book) (g.B.LoadBook.grossing l.fn.book)) l.calls l.answers l.day l.lawful l.i
