@@ -21,7 +21,7 @@ impl fmt::Display for Untaken {
 
 /// A refusal, with the segment or site at fault where it names one that the line does not.
 fn refused<W: fmt::Write>(refusal: Refusal, f: &mut fmt::Formatter<W>) -> fmt::Result {
-    write!(f, "sent back, {}", refusal.words())?;
+    write!(f, "sent back, {refusal}")?;
     match refusal {
         Refusal::NoReading { segment, height }
         | Refusal::NoFactor { segment, height }

@@ -147,6 +147,5 @@ fn write_numbers<W: fmt::Write>(
 
 fn write_refusal<W: fmt::Write>(f: &mut fmt::Formatter<W>, refusal: &Refusal) -> fmt::Result {
     let number = refusal.answer().number;
-    let words = refusal.words();
-    write!(f, "sent back with refusal {number}, {words}")
+    write!(f, "sent back with refusal {number}, {refusal}")
 }
