@@ -34,6 +34,8 @@ impl<B: LoadBook> QuarterHour<'_, B> {
     {
         let none = LoadedRow { row: None, load: 0 };
         let mut rows = [none; 64];
+        // By number, which a book is asked by: `array::try_from_fn` says of an error no more than that
+        // some number gave it, and here the first one decides.
         for segment in 0..64u8 {
             rows[segment as usize] = self.loaded_row(segment)?;
         }

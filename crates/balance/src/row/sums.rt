@@ -42,6 +42,7 @@ pub(crate) fn add_parts(rows: &[LoadedRow; 64], parts: &[i64; 64]) -> [i64; 64]
 }
 
 /// Adds a row's amount to its pair.
+// That the inner arrays have eight places is required: proofs are told an array's own length alone.
 fn add_to_pair(pairs: &mut [[i64; 8]; 16], row: &LoadedRow, amount: i64)
     requires shape { Shaped pairs.old }
     requires small { CellsWithin 26880000000 pairs.old }

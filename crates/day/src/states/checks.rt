@@ -9,6 +9,8 @@ use crate::states::Day;
 use book::LoadBook;
 use refusal::Refusal;
 
+// Two checks of one shape: a limit and a refusal of its own for each, and one function of both would
+// be the test itself.
 /// That a number is one of a segment.
 pub(crate) fn segment_number(segment: u8) -> Result<(), Refusal>
     ensures { result ≡ ok_unless (no_segment segment) tt }

@@ -7,6 +7,8 @@ use crate::marks::Marks;
 use book::{LoadBook, check_cell, check_entry};
 use refusal::Refusal;
 
+// `read` and `load` read like those of a slip book: two lines each over what either book holds, and a
+// function for them would be a second interface under the first.
 impl LoadBook for Grid<'_> {
     ghost standing = { standing_of };
 

@@ -50,6 +50,8 @@ impl Marks {
         }
     }
 
+    // One function for `with` and `without` would take `set` or `cleared` as an argument, and require of
+    // it what these two ensure: it is no shorter.
     /// The same marks with this one set.
     pub(crate) fn with(mut self, quarter_hour: u8) -> Marks
         requires { quarter_hour < 100 }

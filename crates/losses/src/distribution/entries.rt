@@ -13,7 +13,7 @@ use crate::adjusted::Adjustment;
 use crate::distribution::DistributionTable;
 use crate::table::FactorTable;
 use refusal::Refusal;
-use roll::{LossCode, Roll};
+use roll::{LossCode, Roll, Row};
 
 /// The row of the table that a code's factors stand in. A segment at transmission voltage has no
 /// distribution loss, and its code no row.
@@ -46,11 +46,11 @@ fn row_of_letter(letter: u8) -> Option<usize>
     row_of(code_of_letter(letter)?)
 }
 
-/// The code that the roll has for a segment, or none.
-fn code_on_roll(roll: &Roll, segment: u8) -> Option<LossCode>
-    ensures { result ≡ roll_code (slice_index_or (rows_of roll.now) segment None) }
+/// The code in a place of the roll, or none.
+fn code_in(row: Option<Row>) -> Option<LossCode>
+    ensures { result ≡ roll_code row }
 {
-    code_of_letter(roll.row(segment)?.code)
+    code_of_letter(row?.code)
 }
 
 /// The codes of the whole roll.
@@ -58,8 +58,8 @@ fn codes_of(roll: &Roll) -> [Option<LossCode>; 64]
     ensures { result ≡ map roll_code (rows_of roll.now) }
 {
     let mut codes = [None; 64];
-    for segment in 0..64u8 {
-        codes[segment as usize] = code_on_roll(roll, segment);
+    for (segment, row) in roll.rows().iter().enumerate() {
+        codes[segment] = code_in(*row);
     }
     codes
 }

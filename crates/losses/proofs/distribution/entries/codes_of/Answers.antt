@@ -13,7 +13,7 @@ loop-segment-preserved c =
     let rows = rows_of c.args.roll.now in
     record {
       many = length-set codes s _ ∙ c.loop-segment.invariant.many;
-      below = rw c.code_on_roll.ensures (fill_by_more (λ k. roll_code (get_or rows k None)) codes s None (omega arith) c.loop-segment.invariant.below);
+      below = rw (c.code_in.ensures, c.rows-row-items.ensures) (fill_by_more (λ k. roll_code (get_or rows k None)) codes s None (omega arith) c.loop-segment.invariant.below);
     }
 
 pub returns : goal.returns
