@@ -1,5 +1,5 @@
 -- From what was gathered to the balance of the quarter hour. Assumes nothing.
-use Rattle.std.proofs.Common.{◌≡◌, ℕ, ◌<◌, ◌≤◌, true, false, cond, ltb, List, length, get_or, ℤ, is_some, Some, None, Ok, Err, Option, Result, sym, refl, ap, ◌∙◌, subst, ⊎_elim, arith}
+use Rattle.std.proofs.Common.{◌≡◌, ℕ, ◌<◌, ◌≤◌, true, false, cond, ltb, List, length, get_or, ℤ, pos, is_some, Some, None, Ok, Err, Option, Result, sym, refl, ap, ◌∙◌, subst, ⊎_elim, arith}
 use mathlib.Core.Path.{fun_ext}
 use Rattle.std.proofs.lemmas.List.{get_or_past}
 use Rattle.std.proofs.lemmas.Bool.{cases_lt, cond-true, cond-false, le-ltb, true≢false}
@@ -19,6 +19,7 @@ use Rattle.balance.specs.Settling.{Settled, blank_row, sheet_in}
 use Rattle.balance.specs.Totals.{total, or_else, first_of}
 use Rattle.balance.proofs.Balanced.{balanced}
 use Rattle.balance.proofs.Settling.{carried_when}
+use Rattle.balance.proofs.Totals.{none_later}
 
 -- what was let through by the check of the quarter hour
 pub early_is : (q : ℕ) (t : Unit {0}) → Ok t ≡ cond (ltb 99 q) (Err QuarterHour) (Ok tt) → q ≤ 99
@@ -73,3 +74,13 @@ module _ (x : Quarter) (many : length x.rows ≡ 64) where
 
     pub answers : ((s : ℕ) → ranged (get_or x.rows s None) ≡ true) → (ls : List LoadedRow) (g : ℤ) → length ls ≡ 64 → LoadedUpTo 64 ls x.rows x.gross → g ≡ total (figure_of x.sites x.figure) 16 → (r : Result Balance Refusal) → Settled (sheet_in ls g) r → AnsweredAs r q x
     answers in-range ls g n loaded e r h = settled_answers in-range r (subst (λ (y : Sheet). Settled y r) (same_sheet ls g n loaded e) h)
+
+-- in a quarter hour with answers there is a weight to carry what is not accounted for
+pub carried_in : (x : Quarter) → refusal_of_quarter x ≡ None → weighted (sheet_of x) ≡ 0 → ufe (sheet_of x) ≡ pos 0
+carried_in x fine =
+    let nobody : Option Refusal = cond (is_some (first_of (somebody x.rows) 64)) None (Some EmptyRoll) in
+    let segments : Option Refusal = first_of (segment_fault x.rows x.gross) 64 in
+    let sites : Option Refusal = first_of (site_fault x.sites x.figure) 16 in
+    let left = stranded (sheet_of x) in
+    carried_when (ufe (sheet_of x)) (weighted (sheet_of x))
+    (none_later sites left (none_later segments (or_else sites left) (none_later nobody (or_else segments (or_else sites left)) fine)))

@@ -163,3 +163,14 @@ somebody_among xs n e = ap (list_any is_some) (sym (take_all n xs (omega arith))
 pub first_none : {X : Type 0} (f : ℕ → Option X) → first_of f 0 ≡ None
 unfolding first_of
 first_none f = refl
+
+-- ---- one refusal after another
+
+-- where none is made at last, neither the first speaks nor the others
+pub none_first : {X : Type 0} (a b : Option X) → or_else a b ≡ None → a ≡ None
+none_first None b h = refl
+none_first (Some e) b h = cc
+
+pub none_later : {X : Type 0} (a b : Option X) → or_else a b ≡ None → b ≡ None
+none_later None b h = h
+none_later (Some e) b h = cc

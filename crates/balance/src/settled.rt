@@ -1,5 +1,6 @@
 // The balance of one quarter hour, worked out once: every question about it is read off this.
 ghost use Rattle.std.specs.Prelude.{◌≤◌, unsigned_abs};
+ghost use Rattle.balance.specs.Sheets.{Shaped};
 
 pub mod reading;
 pub mod settling;
@@ -16,5 +17,7 @@ pub struct Balance {
     pairs: [[i64; 8]; 16],
     /// RTAML by QSE.
     qse_loads: [i32; 16],
+    // proofs do not read off its type how long a row is
+    ghost shape: { Shaped pairs },
     ghost within: { unsigned_abs generation ≤ 160000000 },
 }

@@ -58,7 +58,8 @@ fn with_losses(factor: u32, load: u32) -> u64
 
 /// The layer's answer for a segment, by an answer below that holds a load of any size: what is past
 /// the limit of a load book stays past it under any factor.
-// That a factor is small is asked for here, and is no type of its own: a loss speaks of any number.
+// That a factor is small is asked for here: with a limit in its type, what `given` and `loss_by_code`
+// say of a table would need a proof of it in every clause.
 pub(crate) fn adjust(below: Result<u32, Refusal>, loss: Loss, segment: u8) -> Result<u32, Refusal>
     requires { Small loss }
     ensures { (q : ℕ) (g : Gross) → below ≡ load_answer segment q g → result ≡ load_answer segment q (adjusted loss g) }

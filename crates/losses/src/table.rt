@@ -8,7 +8,7 @@ pub mod entries;
 #[derive(Clone, Copy)]
 pub struct FactorTable<const ROWS: usize> {
     rows: [[Option<u32>; 100]; ROWS],
-    // Of an array within one whose length is a parameter, the type alone tells no length.
+    // proofs do not read off its type how long a row is
     ghost quarter_hours: { (k : ℕ) → k < ROWS → length (slice_index_or rows k []) ≡ 100 },
     ghost lawful: { (k q : ℕ) → Lawful (at rows k q) },
 }

@@ -14,7 +14,8 @@ pub enum Layer {
 }
 
 /// Up to four layers, the lowest first.
-// The height stands beside an array, since an ArrayVec is not Copy, and this is.
+// The height stands beside an array: an ArrayVec is not Copy, and this is; and a height read off the
+// four places would ask for an invariant that no place below it is empty.
 #[derive(Clone, Copy)]
 pub struct Layers {
     layers: [Option<Layer>; 4],

@@ -9,7 +9,8 @@ pub mod profiled;
 
 /// A reading for each quarter hour of a day, none above 1,000,000 Wh: so whatever posts them has
 /// nothing left to refuse but a wrong segment and the want of places.
-// The list has room for the longest day, and its length is the day's: spreading fills a lent list.
+// The list has room for the longest day, and how much of it counts goes by the day, which is no length
+// beside it: no call of the box takes memory, and a fixed list can be lent to what fills it.
 #[derive(Clone, Copy)]
 pub struct DayReadings {
     day: DayLength,

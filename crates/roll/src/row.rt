@@ -75,7 +75,8 @@ impl TryFrom<u8> for Meter {
     }
 }
 
-/// One segment of the roll as plain numbers, which need not be in range.
+/// One segment of the roll as plain numbers, as it is read in, which need not be in range: the record
+/// that is made from it has the kinds as types.
 #[derive(Clone, Copy, PartialEq, Eq, Debug)]
 pub struct Row {
     /// The qualified scheduling entity, 0 to 15.

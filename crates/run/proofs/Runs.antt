@@ -10,7 +10,8 @@ use Rattle.balance.specs.Questions.{ok_unless}
 use Rattle.day.specs.Entries.{late}
 use Rattle.day.specs.Questions.{quarter_at, sheet_at, loads_refusal, loads_at, shares_refusal, shares_at}
 use Rattle.day.specs.Slate.{Setting, Slate}
-use Rattle.day.proofs.Balances.{none_later, quarter_balanced, loads_come_to, shares_come_to}
+use Rattle.balance.proofs.Totals.{none_later}
+use Rattle.day.proofs.Balances.{quarter_balanced, loads_come_to, shares_come_to}
 use Rattle.run.specs.declared.call.Answer.{Answer}
 use Rattle.run.specs.declared.call.Answer.TheVariants as answer
 use Rattle.run.specs.declared.call.Call.{Call}

@@ -12,16 +12,12 @@ use Rattle.balance.specs.Laws.{Balanced}
 use Rattle.balance.specs.Quarter.{Quarter, sheet_of, load_in, somebody, segment_fault, site_fault, refusal_of_quarter, refusal_of_shares}
 use Rattle.balance.specs.Settling.{Holds}
 use Rattle.balance.specs.Totals.{or_else, first_of}
+use Rattle.balance.proofs.Answering.{carried_in}
 use Rattle.balance.proofs.Balanced.{ufe_most, rtaml_within}
-use Rattle.balance.proofs.Settling.{carried_when}
 use Rattle.statement.specs.Statement.{lists_pair, pair_line, point_lines, pair_lines, share_lines, or_refusal, text_of, statement_of}
 use Rattle.statement.specs.Text.{line}
 use Rattle.statement.specs.Writing.{loads_of, lack_of, shares_of, balance_text}
 use Rattle.statement.proofs.Pieces.{lines_same}
-
-pub none_second : (a b : Option Refusal) → or_else a b ≡ None → b ≡ None
-none_second None b h = h
-none_second (Some e) b h = cc
 
 small_load : (row : Option Row) (g : Gross) → Bounded g → load_in row g ≤ 4000000
 small_load None g h = omega arith
@@ -40,12 +36,7 @@ module _ (x : Quarter) (b : Balance) (fine : refusal_of_quarter x ≡ None) (hol
   y = sheet_of x
 
   carried : weighted y ≡ 0 → ufe y ≡ pos 0
-  carried =
-      let sites = first_of (site_fault x.sites x.figure) 16 in
-      let segments = first_of (segment_fault x.rows x.gross) 64 in
-      let nobody = cond (is_some (first_of (somebody x.rows) 64)) None (Some EmptyRoll) in
-      carried_when (ufe y) (weighted y)
-      (none_second sites (stranded y) (none_second segments (or_else sites (stranded y)) (none_second nobody (or_else segments (or_else sites (stranded y))) fine)))
+  carried = carried_in x fine
 
   generated : nat_abs y.generation ≤ 160000000
   generated = subst (λ (z : ℤ). nat_abs z ≤ 160000000) holds.generation b.within

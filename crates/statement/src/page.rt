@@ -8,7 +8,7 @@ ghost use Rattle.statement.specs.Writing.{Appends, Fits};
 use itoa::Buffer;
 use refusal::Refusal;
 
-/// A lent list, and how far it is written.
+/// A lent list, and how far it is written: callers hand over 2,048 bytes, and keep what is behind the text.
 #[derive(Drop)]
 pub(crate) struct Page<'a> {
     pub(crate) text: &'a mut [u8],

@@ -47,9 +47,7 @@ impl Figures {
         requires within { unsigned_abs (unwrap_or content (pos 0)) ≤ 10000000 }
         ensures { figures_of self.new ≡ put_at site quarter_hour content (figures_of self.old) }
     {
-        let mut table = self.table;
-        table[site as usize][quarter_hour as usize] = content;
-        *self = Figures { table };
+        self.table[site as usize][quarter_hour as usize] = content;
     }
 
     /// Enters a figure, and answers the one that stood before.

@@ -58,7 +58,8 @@ fn add_to_pair(pairs: &mut [[i64; 8]; 16], row: &LoadedRow, amount: i64)
 /// What each QSE has at each settlement point.
 pub(crate) fn pair_up(rows: &[LoadedRow; 64], amounts: &[i64; 64]) -> [[i64; 8]; 16]
     requires { EachWithin 420000000 amounts.now }
-    ensures { (d : LoadedRow) (qse point : ℕ) → cell (pos 0) result qse point ≡ pair_sum rows.now amounts.now d 64 qse point }
+    ensures shape { Shaped result }
+    ensures value { (d : LoadedRow) (qse point : ℕ) → cell (pos 0) result qse point ≡ pair_sum rows.now amounts.now d 64 qse point }
 {
     let mut pairs = [[0i64; 8]; 16];
     for (s, row) in rows.iter().enumerate() {

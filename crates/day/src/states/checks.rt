@@ -49,10 +49,10 @@ impl<B: LoadBook + Drop, S: Drop> Day<B, S> {
     pub(crate) fn lists_segment(&self, segment: u8) -> Result<(), Refusal>
         ensures { result ≡ ok_unless (unlisted (is_some (slice_index_or (rows_of self.now.roll) segment None)) segment) tt }
     {
-        match self.roll.row(segment) {
-            Some(_) => Ok(()),
-            None => Err(Refusal::NotOnRoll { subject: segment }),
-        }
+        self.roll
+            .row(segment)
+            .map(|_| ())
+            .ok_or(Refusal::NotOnRoll { subject: segment })
     }
 
     /// That a site is on the roll.

@@ -50,8 +50,8 @@ impl Marks {
         }
     }
 
-    // One function for `with` and `without` would take `set` or `cleared` as an argument, and require of
-    // it what these two ensure: it is no shorter.
+    // One function for `with` and `without` would take a flag, and choose by it between `set` and
+    // `cleared` for either word: no plainer.
     /// The same marks with this one set.
     pub(crate) fn with(mut self, quarter_hour: u8) -> Marks
         requires { quarter_hour < 100 }

@@ -1,5 +1,6 @@
 // How a layer is added, and how one that is there is filled. Layers are numbered from 1. To fill one is
-// to take its table out, and to put it back: no proof lends out of an array of such enums.
+// to take its table out, and to put it back: a table lent out of the array was tried in four ways, and
+// the borrow checker made no proof of any.
 ghost use Rattle.std.specs.Prelude.{◌≡◌, ◌+◌, ◌-◌, ◌≤◌, true, replicate, is_some, if◌then◌else◌, Some, None, nat_lt, slice_set};
 ghost use Rattle.std.specs.Option.{option_map};
 ghost use Rattle.roll.specs.Entries.{rows_of};

@@ -63,7 +63,8 @@ impl<'a> SlipBook<'a> {
         ensures after { standing_in self.new ≡ put_cell (standing_in self.old) (slip_at self.old.slips.now i) (Some reading) }
         ensures places_kept { places_in self.new ≡ places_in self.old }
     {
-        // By hand: `mem::replace` lends out a part of the list, and then no proof is made.
+        // By hand: `mem::replace` was tried, and lends out a part of the list, under whose ghost field no
+        // proof is made of it.
         let before = self.slips[i].reading;
         self.slips[i].reading = reading;
         before

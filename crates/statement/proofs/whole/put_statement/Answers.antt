@@ -10,7 +10,8 @@ use Rattle.balance.specs.Questions.{late_at}
 use Rattle.balance.specs.Totals.{or_else}
 use Rattle.statement.specs.Statement.{answer_line, or_refusal, text_of, statement_of}
 use Rattle.statement.proofs.Appending.{appends_same}
-use Rattle.statement.proofs.Reading.{none_second, ufe_small, loads_small, text_same}
+use Rattle.balance.proofs.Totals.{none_later}
+use Rattle.statement.proofs.Reading.{ufe_small, loads_small, text_same}
 use Rattle.statement.proofs.whole.put_statement.Goals as goal
 
 pub invariant_of-put : goal.invariant_of-put
@@ -19,7 +20,7 @@ invariant_of-put g c =
     let book = q.book.now in
     let x : Quarter = quarter g.B.LoadBook q in
     let got = c.in-Ok.ensures in
-    let fine : refusal_of_quarter x ≡ None = none_second (late_at q.quarter_hour) (refusal_of_quarter x) got.0 in
+    let fine : refusal_of_quarter x ≡ None = none_later (late_at q.quarter_hour) (refusal_of_quarter x) got.0 in
     let bounded = λ (s : ℕ). g.B.LoadBook.bounded book s q.quarter_hour (g.B.LoadBook.standing book s q.quarter_hour) (g.B.LoadBook.readable book s q.quarter_hour) in
     record {
       ufe = ufe_small x c.in-Ok.balance fine got.1 got.2 bounded;
@@ -39,7 +40,7 @@ pub returns-in-Ok : goal.returns-in-Ok
 returns-in-Ok g c =
     let x : Quarter = quarter g.B.LoadBook c.args.quarter_hour.now in
     let got = c.in-Ok.ensures in
-    let fine : refusal_of_quarter x ≡ None = none_second (late_at c.args.quarter_hour.now.quarter_hour) (refusal_of_quarter x) got.0 in
+    let fine : refusal_of_quarter x ≡ None = none_later (late_at c.args.quarter_hour.now.quarter_hour) (refusal_of_quarter x) got.0 in
     appends_same (text_same x c.in-Ok.balance fine got.1 got.2) c.put.ensures
 
 pub returns-in-Err : goal.returns-in-Err

@@ -48,6 +48,9 @@ loop-s-preserved c =
     )
 
 pub returns : goal.returns
-returns c d qse point =
+returns c =
     let all : c.loop-s.s ≡ 64 = omega arith in
-    rw all at (c.loop-s.invariant.1 d qse point)
+    record {
+      shape = c.loop-s.invariant.0;
+      value = λ d qse point. rw all at (c.loop-s.invariant.1 d qse point);
+    }

@@ -33,8 +33,8 @@ add_points-qse_loads-requires c =
     let long : length A ≡ 64 = search rules in
     let sums = by_parts rows A _ _ c.requires.parts c.add_parts-adjusted.ensures in
     record {
-      small = pairs_most rows g many c.requires.generation c.requires.carried A long sums P c.pair_up-pairs.ensures;
-      sums = λ q _. qse_most rows g many c.requires.generation c.requires.carried A long sums P c.pair_up-pairs.ensures q;
+      small = pairs_most rows g many c.requires.generation c.requires.carried A long sums P c.pair_up-pairs.ensures.value;
+      sums = λ q _. qse_most rows g many c.requires.generation c.requires.carried A long sums P c.pair_up-pairs.ensures.value q;
     }
 
 pub returns : goal.returns
@@ -52,6 +52,6 @@ returns c =
       generation = to_z-of_z w64 g c.ranges.generation;
       ufe = to_z-of_z w64 c.args.ufe c.ranges.ufe ∙ c.requires.ufe;
       adjusted = adjusted_are rows g many c.requires.generation c.requires.carried A long sums;
-      pairs = λ q p _ _. pairs_are rows g many c.requires.generation c.requires.carried A long sums P c.pair_up-pairs.ensures q p;
-      qse_loads_are = qse_are rows g many c.requires.generation c.requires.carried A long sums P c.pair_up-pairs.ensures Q all c.add_points-qse_loads.ensures;
+      pairs = λ q p _ _. pairs_are rows g many c.requires.generation c.requires.carried A long sums P c.pair_up-pairs.ensures.value q p;
+      qse_loads_are = qse_are rows g many c.requires.generation c.requires.carried A long sums P c.pair_up-pairs.ensures.value Q all c.add_points-qse_loads.ensures;
     }

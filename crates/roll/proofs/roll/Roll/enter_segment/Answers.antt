@@ -1,9 +1,9 @@
 -- A row that is refused is out of range. One that is read is in range, and its place was free: the new list keeps every other
 -- row, and each row in range.
-use Rattle.std.proofs.Common.{◌≡◌, true, None, length-set, ◌∙◌, rules}
+use Rattle.std.proofs.Common.{◌≡◌, true, None, length-set, ◌∙◌}
 use Rattle.roll.specs.Ranges.{ranged}
 use Rattle.roll.proofs.Places.{each_after_set}
-use Rattle.roll.proofs.Records.{read_in_range, out_of_range}
+use Rattle.roll.proofs.Records.{read_in_range}
 use Rattle.roll.proofs.roll.Roll.enter_segment.Goals as goal
 
 pub invariant_of-self : goal.invariant_of-self
