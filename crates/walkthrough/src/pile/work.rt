@@ -5,28 +5,13 @@ ghost use Rattle.roll.specs.Entries.{rows_of};
 ghost use Rattle.book.specs.Cells.{nothing};
 ghost use Rattle.walkthrough.specs.Piles.{two_rows, with_readings, climb_of, under_one, plain, known};
 
+use crate::shared::{DISTRIBUTION, HOUSEHOLD, NOON, TRANSMISSION};
 use book::LoadBook;
 use grid::Grid;
 use losses::{Distribution, Transmission};
 use refusal::Refusal;
 use roll::{Draft, Roll, Row};
 use slips::{Slip, SlipBook};
-
-/// The quarter hour that has loss factors, from 12:00.
-pub const NOON: u8 = 48;
-
-/// The factors, in millionths: of distribution for code A, and of transmission.
-pub const DISTRIBUTION: u32 = 50_000;
-
-pub const TRANSMISSION: u32 = 20_000;
-
-const HOUSEHOLD: Row = Row {
-    qse: 1,
-    point: 0,
-    code: b'A',
-    meter: 1,
-    noie: 0,
-};
 
 const MILL: Row = Row {
     qse: 2,

@@ -1,4 +1,5 @@
 // A quarter hour of four segments and two sites, through a pile of both loss adjustments.
+use crate::shared::{DISTRIBUTION, HOUSEHOLD, NOON, TRANSMISSION};
 use balance::{Figures, Ufe};
 use book::LoadBook;
 use grid::Grid;
@@ -6,18 +7,7 @@ use losses::{Distribution, Transmission};
 use refusal::Refusal;
 use roll::{Draft, Roll, Row};
 
-/// The quarter hour from 12:00.
-pub const NOON: u8 = 48;
-
-pub const HOUSEHOLD: Row = Row {
-    qse: 1,
-    point: 0,
-    code: b'A',
-    meter: 1,
-    noie: 0,
-};
-
-pub const WORKSHOP: Row = Row {
+const WORKSHOP: Row = Row {
     qse: 2,
     point: 0,
     code: b'B',
@@ -25,7 +15,7 @@ pub const WORKSHOP: Row = Row {
     noie: 0,
 };
 
-pub const MILL: Row = Row {
+const MILL: Row = Row {
     qse: 1,
     point: 1,
     code: b'T',
@@ -33,7 +23,7 @@ pub const MILL: Row = Row {
     noie: 0,
 };
 
-pub const TOWN: Row = Row {
+const TOWN: Row = Row {
     qse: 3,
     point: 1,
     code: b'T',
@@ -155,10 +145,10 @@ fn settle_under_losses<B: LoadBook + Drop>(
 ) -> Result<Settled, Refusal> {
     let mut distribution = Distribution::over(book);
     distribution.take_over_codes(roll);
-    distribution.set_factor(b'A', NOON, 50_000)?;
+    distribution.set_factor(b'A', NOON, DISTRIBUTION)?;
     distribution.set_factor(b'B', NOON, 25_000)?;
     let mut transmission = Transmission::over(distribution);
-    transmission.set_factor(NOON, 20_000)?;
+    transmission.set_factor(NOON, TRANSMISSION)?;
     settle(roll, &transmission, figures)
 }
 
