@@ -4,9 +4,11 @@ use Rattle.refusal.specs.declared.Refusal.{Refusal}
 use Rattle.roll.specs.declared.roll.Roll.{Roll}
 use Rattle.roll.specs.declared.row.Row.{Row}
 use Rattle.roll.specs.Entries.{rows_of, sites_of}
+use Rattle.book.specs.declared.LoadBook.{Ghosts}
 use Rattle.book.specs.Cells.{Standing}
 use Rattle.book.specs.Grossing.{Gross, Grossing}
 use Rattle.balance.specs.declared.figures.Figures.{Figures}
+use Rattle.balance.specs.declared.questions.QuarterHour.{QuarterHour}
 use Rattle.balance.specs.declared.row.LoadedRow.{LoadedRow}
 use Rattle.balance.specs.Quarter.{Quarter, load_in, fault_in, figure_in, site_fault, site_fault_in, segment_fault, figure_of}
 use Rattle.balance.specs.Figures.{figures_of}
@@ -23,6 +25,11 @@ quarter_of roll gross figures q =
 -- a quarter hour by a roll, a book's grossing and what stands in it, and the figures
 abbrev pub quarter_in : Roll → Grossing → Standing → Figures → ℕ → Quarter
 quarter_in roll grossing standing figures q = quarter_of roll (gross_at grossing standing q) figures q
+
+-- the quarter hour that is asked about
+abbrev pub quarter : {B : Type 0} → Ghosts B → QuarterHour B → Quarter
+quarter meaning x =
+    quarter_in x.roll.now (meaning.grossing x.book.now) (meaning.standing x.book.now) x.figures.now x.quarter_hour
 
 -- a row with its load, or the fault
 abbrev pub LoadedAs : Result LoadedRow Refusal → ℕ → Option Row → Gross → Type 0

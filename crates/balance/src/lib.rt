@@ -8,5 +8,5 @@ mod row;
 mod settled;
 
 pub use figures::Figures;
-pub use questions::{Ufe, adjusted_loads, balance_of, generation_and_ufe, rtaml, shares};
+pub use questions::{QuarterHour, Ufe};
 pub use settled::Balance;

@@ -9,16 +9,16 @@ use Rattle.balance.specs.Quarter.{Quarter, sheet_of, refusal_of_quarter}
 use Rattle.balance.specs.Questions.{ok_unless, late_at, misfit}
 use Rattle.balance.proofs.Sharing.{none_between}
 use Rattle.balance.proofs.Totals.{sum_of_counting}
-use Rattle.balance.proofs.questions.adjusted_loads.Goals as goal
+use Rattle.balance.proofs.questions.QuarterHour.adjusted_loads.Goals as goal
 
-pub returns-in-Ok : goal.returns-in-Ok
-returns-in-Ok g c =
-    let q = c.args.quarter_hour in
-    let book = c.args.book.now in
-    let x : Quarter = quarter_in c.args.roll.now (g.B.LoadBook.grossing book) (g.B.LoadBook.standing book) c.args.figures.now q in
+pub returns : goal.returns
+returns g c =
+    let q = c.args.self.now.quarter_hour in
+    let book = c.args.self.now.book.now in
+    let x : Quarter = quarter_in c.args.self.now.roll.now (g.B.LoadBook.grossing book) (g.B.LoadBook.standing book) c.args.self.now.figures.now q in
     let y = sheet_of x in
     let list = c.args.list.now in
-    let got = c.in-Ok.ensures in
+    let got = c.in_ok-balance.ensures in
     let read = c.loads.ensures in
     let filled = read.after ∙ ap (λ (xs : List ℤ). cond (is_ok c.loads.result) xs list) got.1.adjusted in
     record {

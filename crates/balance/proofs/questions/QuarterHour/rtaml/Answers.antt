@@ -5,16 +5,16 @@ use Rattle.balance.specs.Gathering.{quarter_in}
 use Rattle.balance.specs.Quarter.{Quarter, sheet_of, refusal_of_quarter}
 use Rattle.balance.specs.Questions.{ok_unless, late_at, nowhere}
 use Rattle.balance.proofs.Sharing.{none_between}
-use Rattle.balance.proofs.questions.rtaml.Goals as goal
+use Rattle.balance.proofs.questions.QuarterHour.rtaml.Goals as goal
 
-pub returns-in-Ok : goal.returns-in-Ok
-returns-in-Ok g c =
-    let q = c.args.quarter_hour in
+pub returns : goal.returns
+returns g c =
+    let q = c.args.self.now.quarter_hour in
     let qse = c.args.qse in
     let point = c.args.point in
-    let book = c.args.book.now in
-    let x : Quarter = quarter_in c.args.roll.now (g.B.LoadBook.grossing book) (g.B.LoadBook.standing book) c.args.figures.now q in
-    let got = c.in-Ok.ensures in
+    let book = c.args.self.now.book.now in
+    let x : Quarter = quarter_in c.args.self.now.roll.now (g.B.LoadBook.grossing book) (g.B.LoadBook.standing book) c.args.self.now.figures.now q in
+    let got = c.in_ok-balance.ensures in
     record {
       answer =
           c.rtaml.ensures
