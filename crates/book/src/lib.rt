@@ -2,12 +2,44 @@
 // places it has, and what a reading, or none, grosses to. Code above is proved once, against that.
 #![tactic(auto)]
 
-ghost use Rattle.std.specs.Prelude.{◌≡◌, ℕ, ◌-◌, ◌≤◌, is_ok, if◌then◌else◌, Some, None, Option};
-ghost use Rattle.book.specs.Answers.{post_answer, withdraw_answer, read_answer, load_answer};
+ghost use Rattle.std.specs.Prelude.{◌≡◌, ℕ, ◌-◌, ◌≤◌, is_ok, if◌then◌else◌, Some, None, Ok, Err, Option, nat_lt};
+ghost use Rattle.refusal.specs.declared.Refusal.TheVariants as refused;
+ghost use Rattle.book.specs.Answers.{cell_answer, post_answer, withdraw_answer, read_answer, load_answer};
 ghost use Rattle.book.specs.Cells.{Standing, Readable, nothing, put, count};
 ghost use Rattle.book.specs.Grossing.{Grossing, Bounded};
 
 use refusal::Refusal;
+
+/// That a quarter hour is one of the 100 that a book has.
+pub fn check_quarter_hour(quarter_hour: u8) -> Result<(), Refusal>
+    ensures { result ≡ (if nat_lt 99 quarter_hour then Err refused.QuarterHour else Ok tt) }
+{
+    if quarter_hour > 99 {
+        return Err(Refusal::QuarterHour);
+    }
+    Ok(())
+}
+
+/// That there is a cell: the segment is looked at first, then the quarter hour.
+pub fn check_cell(segment: u8, quarter_hour: u8) -> Result<(), Refusal>
+    ensures { result ≡ cell_answer segment quarter_hour (Ok tt) }
+{
+    if segment > 63 {
+        return Err(Refusal::SegmentNumber);
+    }
+    check_quarter_hour(quarter_hour)
+}
+
+/// That a reading could stand in a cell that there is.
+pub fn check_entry(segment: u8, quarter_hour: u8, reading: u32) -> Result<(), Refusal>
+    ensures { result ≡ cell_answer segment quarter_hour (if nat_lt 1000000 reading then Err refused.Reading else Ok tt) }
+{
+    check_cell(segment, quarter_hour)?;
+    if reading > 1_000_000 {
+        return Err(Refusal::Reading);
+    }
+    Ok(())
+}
 
 pub trait LoadBook {
     /// The reading of each cell, or none.

@@ -1,8 +1,10 @@
 // The refusals of the box: one closed list, which every other crate answers from.
 #![tactic(auto)]
 
-ghost use Rattle.std.specs.Prelude.{◌≡◌};
+ghost use Rattle.std.specs.Prelude.{◌≡◌, Some};
 ghost use Rattle.refusal.specs.Table.{answer_of, words_of};
+
+use std::fmt;
 
 /// Why an entry or a question was sent back. The cases stand in the order in which they are checked.
 #[derive(Clone, Copy, PartialEq, Eq, Debug)]
@@ -133,5 +135,14 @@ impl Refusal {
             Refusal::NoWeight => "there is UFE, and no weighted load to carry it",
             Refusal::NoTotal => "the total of all loads is not positive",
         }
+    }
+}
+
+/// Its words.
+impl fmt::Display for Refusal {
+    ghost output = { λ r. Some (words_of r) };
+
+    fn fmt<W: fmt::Write>(&self, f: &mut fmt::Formatter<W>) -> fmt::Result {
+        f.write_str(self.words())
     }
 }
