@@ -5,6 +5,5 @@ use std::io;
 /// A part of the walk that ends early, by what was sent back.
 pub fn stopped(rt: &HostRuntime, what: &str, refusal: &Refusal) -> io::Result<()> {
     let number = refusal.answer().number;
-    let words = refusal.words();
-    println!(rt; "The {what} was sent back, with refusal {number}: {words}.")
+    println!(rt; "The {what} was sent back, with refusal {number}: {refusal}.")
 }

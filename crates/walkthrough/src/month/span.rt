@@ -27,6 +27,7 @@ fn is_weekend(day: u8) -> bool
 pub fn weekday(day: u8) -> &'static str
     ensures { result.now ≡ weekday_of (day % 7) }
 {
+    // An enum would be made from the number by one match, and told by another.
     match day % 7 {
         0 => "Monday",
         1 => "Tuesday",

@@ -84,14 +84,13 @@ pub fn refused(
 ) -> io::Result<()> {
     let energy = Grouped::from(entry.energy);
     let number = refusal.answer().number;
-    let words = refusal.words();
     let list = if unchanged {
         "stayed as it was"
     } else {
         "was changed"
     };
     println!(rt; "The same entry with {energy} Wh is sent back, with refusal {number}:")?;
-    println!(rt; "{words}.")?;
+    println!(rt; "{refusal}.")?;
     println!(rt; "The list of the day's readings {list}.")
 }
 

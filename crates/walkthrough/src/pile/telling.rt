@@ -74,9 +74,8 @@ fn answer(rt: &HostRuntime, place: &str, load: &Result<u32, Refusal>) -> io::Res
         }
         Err(refusal) => {
             let answer = refusal.answer();
-            let words = refusal.words();
             println!(rt;
-                "- {place}: refusal {}, segment {}, height {}: {words}.",
+                "- {place}: refusal {}, segment {}, height {}: {refusal}.",
                 answer.number, answer.subject, answer.height
             )
         }

@@ -1,12 +1,14 @@
 // A quarter hour of four segments and two sites, through a pile of both loss adjustments.
 use crate::shared::{DISTRIBUTION, HOUSEHOLD, NOON, TRANSMISSION};
-use balance::{Figures, Ufe};
+use balance::{Figures, QuarterHour, Ufe};
 use book::LoadBook;
 use grid::Grid;
 use losses::{Distribution, Transmission};
 use refusal::Refusal;
 use roll::{Draft, Roll, Row};
 
+// The rows and the losses stand in the programs of the four segments and of the lively day too: each is
+// read by itself.
 const WORKSHOP: Row = Row {
     qse: 2,
     point: 0,
@@ -110,29 +112,26 @@ fn ask_loads<B: LoadBook>(book: &B) -> Result<Loads, Refusal> {
     })
 }
 
-fn ask_rtaml<B: LoadBook>(roll: &Roll, book: &B, figures: &Figures) -> Result<Rtaml, Refusal> {
+fn ask_rtaml<B: LoadBook>(noon: &QuarterHour<B>) -> Result<Rtaml, Refusal> {
     Ok(Rtaml {
-        one_at_0: balance::rtaml(roll, book, figures, NOON, 1, 0)?,
-        one_at_1: balance::rtaml(roll, book, figures, NOON, 1, 1)?,
-        two_at_0: balance::rtaml(roll, book, figures, NOON, 2, 0)?,
-        three_at_1: balance::rtaml(roll, book, figures, NOON, 3, 1)?,
+        one_at_0: noon.rtaml(1, 0)?,
+        one_at_1: noon.rtaml(1, 1)?,
+        two_at_0: noon.rtaml(2, 0)?,
+        three_at_1: noon.rtaml(3, 1)?,
     })
 }
 
 /// Asks for all the answers of the quarter hour.
-fn settle<B: LoadBook>(roll: &Roll, book: &B, figures: &Figures) -> Result<Settled, Refusal> {
-    let loads = ask_loads(book)?;
-    let energy = balance::generation_and_ufe(roll, book, figures, NOON)?;
+fn settle<B: LoadBook>(noon: &QuarterHour<B>) -> Result<Settled, Refusal> {
     let mut adjusted = [0; 64];
-    balance::adjusted_loads(roll, book, figures, NOON, &mut adjusted)?;
-    let rtaml = ask_rtaml(roll, book, figures)?;
+    noon.adjusted_loads(&mut adjusted)?;
     let mut shares = [0; 16];
-    balance::shares(roll, book, figures, NOON, &mut shares)?;
+    noon.shares(&mut shares)?;
     Ok(Settled {
-        loads,
-        energy,
+        loads: ask_loads(noon.book)?,
+        energy: noon.generation_and_ufe()?,
         adjusted,
-        rtaml,
+        rtaml: ask_rtaml(noon)?,
         shares,
     })
 }
@@ -149,7 +148,12 @@ fn settle_under_losses<B: LoadBook + Drop>(
     distribution.set_factor(b'B', NOON, 25_000)?;
     let mut transmission = Transmission::over(distribution);
     transmission.set_factor(NOON, TRANSMISSION)?;
-    settle(roll, &transmission, figures)
+    settle(&QuarterHour {
+        roll,
+        book: &transmission,
+        figures,
+        quarter_hour: NOON,
+    })
 }
 
 pub fn work_out() -> Result<Settled, Refusal> {
