@@ -1,6 +1,11 @@
 -- Slips in use, and what stands by them. Assumes nothing.
-use Rattle.std.proofs.Common.{◌≡◌, ℕ, zero, suc, ◌+◌, ◌-◌, ◌<◌, ◌≤◌, false, ◌≢◌, List, length, set, is_some, Some, None, Option, sym, refl, ap, ◌∙◌, subst, ⊎_elim, add-one, arith, length-set, get_or-set_other, get_or-set_same}
+use Rattle.std.proofs.Common.{◌≡◌, ℕ, zero, suc, ◌+◌, ◌-◌, ◌<◌, ◌≤◌, false, ◌≢◌, Bool, true, List, length, take, set, is_some, Some, None, Option, sym, refl, ap, ◌∙◌, subst, ⊎_elim, add-one, arith, length-set, length-take, get_or-set_other, get_or-set_same}
+use Rattle.std.specs.List.{position, position_or_len}
+use Rattle.std.proofs.lemmas.List.Sums.{fails_before_first}
+use Rattle.std.proofs.lemmas.List.Quantifiers.{position-Some}
+use Rattle.std.proofs.lemmas.List.{get_or-take}
 use Rattle.std.proofs.lemmas.Bool.{cases_eq}
+use Rattle.std.proofs.lemmas.Bool.Decides.{nat_tests}
 use Rattle.book.specs.Cells.{Standing, same_cell, count}
 use Rattle.book.proofs.Counts.{count_put, count_nothing, put_here, put_elsewhere, one}
 use Rattle.slips.specs.declared.slip.Slip.{Slip}
@@ -52,15 +57,6 @@ last_alone xs n a =
     let step = count_put (standing_of xs n) x.segment x.quarter_hour (Some x.reading) here.0 here.1 in
     let none : one (cell_of (standing_of xs n) x) ≡ 0 = omega arith in
     (one_none (cell_of (standing_of xs n) x) none, (omega (arith, a.0), before, omega arith))
-
--- fewer of them are arranged too
-pub arranged_less : (xs : List Slip) (n m : ℕ) → Arranged xs n → m ≤ n → Arranged xs m
-arranged_less xs zero m a h = let none : m ≡ 0 = omega arith in rw none a
-arranged_less xs (suc n) m a h =
-    ⊎_elim
-    (λ (all : m ≡ suc n). rw all a)
-    (λ (fewer : m ≡ suc n → ⊥). arranged_less xs n m (last_alone xs n a).1 (omega arith))
-    (cases_eq m (suc n))
 
 -- a slip in use says what stands in its cell
 pub standing_found : (xs : List Slip) (n i : ℕ) → Arranged xs n → i < n → cell_of (standing_of xs n) (slip_at xs i) ≡ Some (slip_at xs i).reading
@@ -205,10 +201,34 @@ removed xs (suc m) i a h =
     let last : suc m - 1 ≡ m = omega arith in
     rw last (taken xs m i a h, arranged_taken xs m i a h)
 
--- a cell that none of the first slips is of, nor the next
-pub still_free : (xs : List Slip) (n s q : ℕ) → standing_of xs n s q ≡ None → same_cell (slip_at xs n).segment (slip_at xs n).quarter_hour s q ≡ false → standing_of xs (n + 1) s q ≡ None
+-- ---- the first slip of a cell
+
+abbrev pub is_of : ℕ → ℕ → Slip → Bool
+is_of s q x = same_cell x.segment x.quarter_hour s q
+
+-- a cell that none of the first slips is of is free
+free_of : (xs : List Slip) (n s q : ℕ) → ((i : ℕ) → i < n → is_of s q (slip_at xs i) ≡ false) → standing_of xs n s q ≡ None
 unfolding standing_of
-still_free xs n s q free other = rw add-one (put_elsewhere (standing_of xs n) _ _ _ s q other ∙ free)
+free_of xs zero s q other = refl
+free_of xs (suc n) s q other = put_elsewhere (standing_of xs n) _ _ _ s q (other n (omega arith)) ∙ free_of xs n s q (λ i h. other i (omega arith))
+
+none_first : (p : Slip → Bool) (xs : List Slip) (i : ℕ) → None ≡ position p xs → i < length xs → i < position_or_len p xs
+none_first p xs i e h = grind (arith, nat_tests)
+
+same_numbers : (x : Slip) (s q : ℕ) → is_of s q x ≡ true → (x.segment ≡ s) × (x.quarter_hour ≡ q)
+same_numbers x s q e = (grind (arith, nat_tests), grind (arith, nat_tests))
+
+pub found : (xs : List Slip) (n s q : ℕ) (o : Option ℕ) → Arranged xs n → o ≡ position (is_of s q) (take n xs) → Found xs n s q o
+found xs n s q None a e =
+    free_of xs n s q (λ i h.
+    let within : i < length (take n xs) = simp length-take (omega (arith, a.0)) in
+    rw (← get_or-take n xs i blank h) (fails_before_first (is_of s q) (take n xs) i blank (none_first (is_of s q) (take n xs) i e within)))
+found xs n s q (Some i) a e =
+    let first = position-Some (is_of s q) (take n xs) i blank (sym e) in
+    let below : i < n = omega (arith, a.0, length-take n xs, first.0) in
+    let same = same_numbers (slip_at xs i) s q (rw (← get_or-take n xs i blank below) first.1) in
+    let stands = standing_found xs n i a below in
+    (below, same.0, same.1, cc)
 
 -- a slip is found where a reading stands
 pub found_stands : (xs : List Slip) (n s q : ℕ) (o : Option ℕ) → Found xs n s q o → is_some (standing_of xs n s q) ≡ is_some o

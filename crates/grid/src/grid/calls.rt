@@ -1,25 +1,11 @@
 // The calls of a load book, answered by a grid.
-ghost use Rattle.std.specs.Prelude.{◌≡◌, Ok};
-ghost use Rattle.book.specs.Answers.{cell_answer};
 ghost use Rattle.grid.specs.Grids.{standing_of, places_of, grossing_of};
 ghost use Rattle.grid.specs.Bounds.{readable_from, plainly_bounded};
 
 use crate::grid::Grid;
-use book::LoadBook;
+use crate::marks::Marks;
+use book::{LoadBook, check_cell, check_entry};
 use refusal::Refusal;
-
-/// The segment is looked at first, then the quarter hour.
-fn in_cell(segment: u8, quarter_hour: u8) -> Result<(), Refusal>
-    ensures { result ≡ cell_answer segment quarter_hour (Ok tt) }
-{
-    if segment > 63 {
-        Err(Refusal::SegmentNumber)
-    } else if quarter_hour > 99 {
-        Err(Refusal::QuarterHour)
-    } else {
-        Ok(())
-    }
-}
 
 impl LoadBook for Grid<'_> {
     ghost standing = { standing_of };
@@ -40,10 +26,7 @@ impl LoadBook for Grid<'_> {
         quarter_hour: u8,
         reading: u32,
     ) -> Result<Option<u32>, Refusal> {
-        in_cell(segment, quarter_hour)?;
-        if reading > 1_000_000 {
-            return Err(Refusal::Reading);
-        }
+        check_entry(segment, quarter_hour, reading)?;
         if !self.is_whole() {
             return Err(Refusal::NoPlace);
         }
@@ -53,23 +36,20 @@ impl LoadBook for Grid<'_> {
     }
 
     fn withdraw(&mut self, segment: u8, quarter_hour: u8) -> Result<u32, Refusal> {
-        in_cell(segment, quarter_hour)?;
-        match self.held(segment, quarter_hour) {
-            Some(reading) => {
-                self.empty(segment, quarter_hour);
-                Ok(reading)
-            }
-            None => Err(Refusal::NothingStands),
-        }
+        check_cell(segment, quarter_hour)?;
+        let reading = self
+            .held(segment, quarter_hour)
+            .ok_or(Refusal::NothingStands)?;
+        self.empty(segment, quarter_hour);
+        Ok(reading)
     }
 
     fn clear(&mut self) {
-        self.early = [0; 64];
-        self.late = [0; 64];
+        self.marks = Marks::none();
     }
 
     fn read(&self, segment: u8, quarter_hour: u8) -> Result<Option<u32>, Refusal> {
-        in_cell(segment, quarter_hour)?;
+        check_cell(segment, quarter_hour)?;
         Ok(self.held(segment, quarter_hour))
     }
 
@@ -78,10 +58,8 @@ impl LoadBook for Grid<'_> {
     }
 
     fn load(&self, segment: u8, quarter_hour: u8) -> Result<u32, Refusal> {
-        in_cell(segment, quarter_hour)?;
-        match self.held(segment, quarter_hour) {
-            Some(reading) => Ok(reading),
-            None => Err(Refusal::NoReading { segment, height: 0 }),
-        }
+        check_cell(segment, quarter_hour)?;
+        self.held(segment, quarter_hour)
+            .ok_or(Refusal::NoReading { segment, height: 0 })
     }
 }

@@ -1,9 +1,8 @@
 // How a grid finds, fills and empties a cell, and counts its marks.
-ghost use Rattle.std.specs.Prelude.{◌≡◌, ℕ, ◌+◌, ◌*◌, ◌<◌, ◌≤◌, true, not, length, is_some, Some, None, ◌==◌};
+ghost use Rattle.std.specs.Prelude.{◌≡◌, ℕ, ◌+◌, ◌*◌, ◌<◌, ◌≤◌, not, length, Some, None, ◌==◌};
 ghost use Rattle.book.specs.Answers.{full};
 ghost use Rattle.book.specs.Cells.{put, count};
-ghost use Rattle.grid.specs.Grids.{standing_of, places_of, marks_of};
-ghost use Rattle.grid.specs.Held.{marked};
+ghost use Rattle.grid.specs.Grids.{standing_of, places_of};
 
 use crate::grid::Grid;
 use crate::marks::Marks;
@@ -35,31 +34,12 @@ impl Grid<'_> {
         if self.is_whole() { CELLS } else { 0 }
     }
 
-    /// The marks of a segment.
-    fn marks(&self, segment: u8) -> Marks
-        requires { segment < 64 }
-        ensures { result ≡ marks_of self.now segment }
-    {
-        Marks {
-            early: self.early[segment as usize],
-            late: self.late[segment as usize],
-        }
-    }
-
-    /// Whether a cell has a mark.
-    fn is_marked(&self, segment: u8, quarter_hour: u8) -> bool
-        requires { (segment < 64) × (quarter_hour < 100) }
-        ensures { result ≡ marked self.now.early self.now.late segment quarter_hour }
-    {
-        self.marks(segment).has(quarter_hour)
-    }
-
     /// What stands in a cell.
     pub(super) fn held(&self, segment: u8, quarter_hour: u8) -> Option<u32>
         requires { (segment < 64) × (quarter_hour < 100) }
         ensures { result ≡ standing_of self.now segment quarter_hour }
     {
-        if self.is_marked(segment, quarter_hour) {
+        if self.marks[segment as usize].has(quarter_hour) {
             Some(self.cells[place(segment, quarter_hour)])
         } else {
             None
@@ -68,38 +48,31 @@ impl Grid<'_> {
 
     /// Puts a reading into a cell, and marks it.
     pub(super) fn fill(&mut self, segment: u8, quarter_hour: u8, reading: u32)
-        requires segment_bound { (segment < 64) × (quarter_hour < 100) }
-        requires reading_bound { reading ≤ 1000000 }
-        requires cells_len { length self.old.cells.now ≡ 6400 }
+        requires cell { (segment < 64) × (quarter_hour < 100) }
+        requires reading { reading ≤ 1000000 }
+        requires whole { length self.old.cells.now ≡ 6400 }
         ensures after { standing_of self.new ≡ put (standing_of self.old) segment quarter_hour (Some reading) }
         ensures places { places_of self.new ≡ places_of self.old }
     {
-        let marks = self.marks(segment).with(quarter_hour);
         self.cells[place(segment, quarter_hour)] = reading;
-        self.early[segment as usize] = marks.early;
-        self.late[segment as usize] = marks.late;
+        let segment = segment as usize;
+        self.marks[segment] = self.marks[segment].with(quarter_hour);
     }
 
     /// Takes a cell's mark away.
     pub(super) fn empty(&mut self, segment: u8, quarter_hour: u8)
-        requires segment_bound { (segment < 64) × (quarter_hour < 100) }
-        requires reading_stands { is_some (standing_of self.old segment quarter_hour) ≡ true }
+        requires { (segment < 64) × (quarter_hour < 100) }
         ensures after { standing_of self.new ≡ put (standing_of self.old) segment quarter_hour None }
         ensures places { places_of self.new ≡ places_of self.old }
     {
-        let marks = self.marks(segment).without(quarter_hour);
-        self.early[segment as usize] = marks.early;
-        self.late[segment as usize] = marks.late;
+        let segment = segment as usize;
+        self.marks[segment] = self.marks[segment].without(quarter_hour);
     }
 
     /// How many marks are set, which is how many readings stand.
     pub(super) fn count_marks(&self) -> u32
         ensures { result ≡ count (standing_of self.now) }
     {
-        let mut counted = 0;
-        for segment in 0..64u8 {
-            counted += self.marks(segment).count();
-        }
-        counted
+        self.marks.iter().map(|marks| marks.count()).sum()
     }
 }

@@ -5,6 +5,7 @@ ghost use Rattle.book.specs.Grossing.{plainly};
 ghost use Rattle.grid.specs.Grids.{standing_of, places_of, grossing_of};
 
 use crate::grid::Grid;
+use crate::marks::Marks;
 
 impl<'a> Grid<'a> {
     /// Nothing stands, whatever the list held.
@@ -13,10 +14,7 @@ impl<'a> Grid<'a> {
         ensures places { places_of result ≡ (if nat_eq (length cells.old) 6400 then 6400 else 0) }
         ensures grossing { grossing_of result ≡ (λ s q reading. plainly reading) }
     {
-        Grid {
-            cells,
-            early: [0; 64],
-            late: [0; 64],
-        }
+        let marks = Marks::none();
+        Grid { cells, marks }
     }
 }

@@ -1,8 +1,6 @@
 // What a slip book does, and what it answers.
-ghost use Rattle.std.specs.Prelude.{◌≡◌, ◌<◌, ◌≤◌, min, not, ◌&&◌, length, is_some, if◌then◌else◌, Some, None, Ok, Err, nat_le, nat_lt};
-ghost use Rattle.refusal.specs.declared.Refusal.TheVariants.{Reading};
-ghost use Rattle.book.specs.Answers.{cell_answer};
-ghost use Rattle.book.specs.Cells.{nothing};
+ghost use Rattle.std.specs.Prelude.{◌≡◌, ◌<◌, ◌≤◌, min, not, ◌&&◌, length, is_some, Some, None, nat_le, position};
+ghost use Rattle.book.specs.Cells.{nothing, same_cell};
 ghost use Rattle.book.specs.Grossing.{plainly};
 ghost use Rattle.slips.specs.Books.{standing_in, places_in, grossing_in};
 ghost use Rattle.slips.specs.Slips.{Found, InRange, slip_at, cell_of, put_cell};
@@ -10,38 +8,24 @@ ghost use Rattle.slips.specs.Bounds.{readable_in, housed_in, bounded_in};
 
 use crate::list::SlipBook;
 use crate::slip::Slip;
-use book::LoadBook;
+use book::{LoadBook, check_cell, check_entry};
 use refusal::Refusal;
 
 /// As many places as there are cells.
 const MOST_PLACES: usize = 6_400;
 
-/// Looks at a cell's numbers: the segment, then the quarter hour.
-fn look_at_cell(segment: u8, quarter_hour: u8) -> Result<(), Refusal>
-    ensures { result ≡ cell_answer segment quarter_hour (Ok tt) }
+/// Where the first slip of a cell lies.
+fn first_of(slips: &[Slip], segment: u8, quarter_hour: u8) -> Option<usize>
+    ensures { result ≡ position (λ x. same_cell x.segment x.quarter_hour segment quarter_hour) slips.now }
 {
-    if segment > 63 {
-        return Err(Refusal::SegmentNumber);
-    }
-    if quarter_hour > 99 {
-        return Err(Refusal::QuarterHour);
-    }
-    Ok(())
-}
-
-/// The same, and then at a reading.
-fn look_at_entry(segment: u8, quarter_hour: u8, reading: u32) -> Result<(), Refusal>
-    ensures { result ≡ cell_answer segment quarter_hour (if nat_lt 1000000 reading then Err Reading else Ok tt) }
-{
-    look_at_cell(segment, quarter_hour)?;
-    if reading > 1_000_000 {
-        return Err(Refusal::Reading);
-    }
-    Ok(())
+    slips
+        .iter()
+        .position(|slip| slip.is_of(segment, quarter_hour))
 }
 
 impl<'a> SlipBook<'a> {
     /// A book in which nothing stands, whatever the list held.
+    #[tactic(auto, unfolding(crate::specs::Slips::standing_of))]
     pub fn new(slips: &'a mut [Slip]) -> SlipBook<'a>
         ensures standing { standing_in result ≡ nothing }
         ensures places { places_in result ≡ min (length slips.old) 6400 }
@@ -61,13 +45,7 @@ impl<'a> SlipBook<'a> {
     fn find(&self, segment: u8, quarter_hour: u8) -> Option<usize>
         ensures { Found self.now.slips.now self.now.used segment quarter_hour result }
     {
-        for i in 0..self.used {
-            let slip = self.slips[i];
-            if slip.segment == segment && slip.quarter_hour == quarter_hour {
-                return Some(i);
-            }
-        }
-        None
+        first_of(&self.slips[..self.used], segment, quarter_hour)
     }
 
     /// Whether a cell that was looked for has no slip and can get none, since every place is taken.
@@ -85,6 +63,7 @@ impl<'a> SlipBook<'a> {
         ensures after { standing_in self.new ≡ put_cell (standing_in self.old) (slip_at self.old.slips.now i) (Some reading) }
         ensures places_kept { places_in self.new ≡ places_in self.old }
     {
+        // By hand: `mem::replace` lends out a part of the list, and then no proof is made.
         let before = self.slips[i].reading;
         self.slips[i].reading = reading;
         before
@@ -120,10 +99,8 @@ impl<'a> SlipBook<'a> {
     fn reading_of(&self, segment: u8, quarter_hour: u8) -> Option<u32>
         ensures { result ≡ standing_in self.now segment quarter_hour }
     {
-        match self.find(segment, quarter_hour) {
-            Some(i) => Some(self.slips[i].reading),
-            None => None,
-        }
+        let i = self.find(segment, quarter_hour)?;
+        Some(self.slips[i].reading)
     }
 }
 
@@ -146,7 +123,7 @@ impl LoadBook for SlipBook<'_> {
         quarter_hour: u8,
         reading: u32,
     ) -> Result<Option<u32>, Refusal> {
-        look_at_entry(segment, quarter_hour, reading)?;
+        check_entry(segment, quarter_hour, reading)?;
         let found = self.find(segment, quarter_hour);
         if self.lacks_place_for(found) {
             return Err(Refusal::NoPlace);
@@ -166,19 +143,20 @@ impl LoadBook for SlipBook<'_> {
     }
 
     fn withdraw(&mut self, segment: u8, quarter_hour: u8) -> Result<u32, Refusal> {
-        look_at_cell(segment, quarter_hour)?;
-        match self.find(segment, quarter_hour) {
-            Some(i) => Ok(self.remove(i)),
-            None => Err(Refusal::NothingStands),
-        }
+        check_cell(segment, quarter_hour)?;
+        let i = self
+            .find(segment, quarter_hour)
+            .ok_or(Refusal::NothingStands)?;
+        Ok(self.remove(i))
     }
 
+    #[tactic(auto, unfolding(crate::specs::Slips::standing_of))]
     fn clear(&mut self) {
         self.used = 0;
     }
 
     fn read(&self, segment: u8, quarter_hour: u8) -> Result<Option<u32>, Refusal> {
-        look_at_cell(segment, quarter_hour)?;
+        check_cell(segment, quarter_hour)?;
         Ok(self.reading_of(segment, quarter_hour))
     }
 
@@ -187,10 +165,8 @@ impl LoadBook for SlipBook<'_> {
     }
 
     fn load(&self, segment: u8, quarter_hour: u8) -> Result<u32, Refusal> {
-        look_at_cell(segment, quarter_hour)?;
-        match self.reading_of(segment, quarter_hour) {
-            Some(reading) => Ok(reading),
-            None => Err(Refusal::NoReading { segment, height: 0 }),
-        }
+        check_cell(segment, quarter_hour)?;
+        self.reading_of(segment, quarter_hour)
+            .ok_or(Refusal::NoReading { segment, height: 0 })
     }
 }

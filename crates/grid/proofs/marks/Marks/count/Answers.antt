@@ -1,11 +1,11 @@
 -- A word of 64 bits has at most 64 set.
 use Rattle.std.proofs.Common.{arith}
-use Rattle.std.proofs.lemmas.Nat.{ones-le}
 use Rattle.grid.proofs.Words.{marks_counted}
+use Rattle.grid.proofs.Cells.{mark_count_most}
 use Rattle.grid.proofs.marks.Marks.count.Goals as goal
 
-pub overflow_add-result : goal.overflow_add-result
-overflow_add-result c = omega (arith, ones-le 64 c.args.self.early (omega arith), ones-le 36 c.args.self.late c.requires)
+pub returns-clause-value : goal.returns-clause-value
+returns-clause-value c = marks_counted c.args.self (omega arith)
 
-pub returns : goal.returns
-returns c = marks_counted c.args.self.early c.args.self.late (omega arith) c.requires
+pub returns-clause-bound : goal.returns-clause-bound
+returns-clause-bound c = let counted = marks_counted c.args.self (omega arith) in omega (arith, mark_count_most c.args.self)

@@ -1,5 +1,4 @@
 -- The slip keeps its cell.
-use Rattle.std.proofs.Common.{ℕ, min, refl, ap, length-set}
 use Rattle.slips.proofs.Arranging.{corrected, arranged_corrected}
 use Rattle.slips.proofs.list.SlipBook.correct.Goals as goal
 
@@ -8,11 +7,5 @@ invariant_of-self c =
     let b = c.args.self.now in
     record { arranged = arranged_corrected b.slips.now b.used c.args.i c.args.reading b.arranged c.requires.place c.requires.limit }
 
-pub returns : goal.returns
-returns c =
-    let b = c.args.self.now in
-    record {
-      answer = refl;
-      after = corrected b.slips.now b.used c.args.i c.args.reading b.arranged c.requires.place;
-      places_kept = ap (λ (n : ℕ). min n 6400) (length-set b.slips.now _ _);
-    }
+pub returns-clause-after : goal.returns-clause-after
+returns-clause-after c = let b = c.args.self.now in corrected b.slips.now b.used c.args.i c.args.reading b.arranged c.requires.place
