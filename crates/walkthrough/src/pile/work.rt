@@ -21,12 +21,6 @@ const MILL: Row = Row {
     noie: 0,
 };
 
-const NO_SLIP: Slip = Slip {
-    segment: 0,
-    quarter_hour: 0,
-    reading: 0,
-};
-
 /// The answers for one cell as the pile grows: of the book alone, with distribution over it, and
 /// with transmission over both.
 #[derive(Clone, Copy)]
@@ -116,7 +110,7 @@ fn climb_from_grid(roll: &Roll, segment: u8, quarter_hour: u8) -> Result<Climb, 
 fn at_once_from_slips() -> Result<u32, Refusal>
     ensures { IfOk result (λ x. Ok x ≡ under_one plain (with_readings nothing) 0 70000) }
 {
-    let mut slips = [NO_SLIP; 3];
+    let mut slips = [Slip::default(); 3];
     let mut book = SlipBook::new(&mut slips);
     post_readings(&mut book)?;
     under_one_layer(book, 0, DISTRIBUTION + TRANSMISSION)
