@@ -1,4 +1,4 @@
--- What a number that is padded to two places writes. Assumes nothing.
+-- What a number that is padded to some places writes. Assumes nothing.
 use Rattle.std.proofs.Common.{◌≡◌, ℕ, ◌+◌, ◌-◌, ◌/◌, ◌%◌, ◌^◌, ◌<◌, List, [], ◌∷◌, ◌++◌, length, replicate, decimal, false, ◌∙◌, ⊎_elim, arith}
 use Rattle.std.proofs.Math.Nat.{sub-zero}
 use mathlib.Core.List.{append-nil}
@@ -8,9 +8,10 @@ use Rattle.std.proofs.lemmas.Fmt.{decimal_digit, decimal_step, decimal_nonempty}
 use Rattle.std.proofs.lemmas.List.{length-append}
 use Rattle.clock.specs.Clock.{two_digits}
 
-filled : (ds : List ℕ) → padded_integral (format_spec 32 0 4 2 (2 ^ 64 - 1)) false [] ds ≡ replicate (2 - length ds) 48 ++ ds
+-- to w places, with zeros in front
+pub filled : (w : ℕ) (ds : List ℕ) → padded_integral (format_spec 32 0 4 w (2 ^ 64 - 1)) false [] ds ≡ replicate (w - length ds) 48 ++ ds
 unfolding padded_integral char_count
-filled ds = rw (append-nil ds, sub-zero, sub-zero)
+filled w ds = rw (append-nil ds, sub-zero, sub-zero)
 
 two_at_least : (n : ℕ) → n < 2 ^ 64 → replicate (2 - length (decimal n)) 48 ++ decimal n ≡ two_digits n
 two_at_least n small = ⊎_elim
@@ -27,4 +28,4 @@ two_at_least n small = ⊎_elim
     (cases_lt n 10)
 
 pub two_places : {s : _} (n : ℕ) → s ≡ format_spec 32 0 4 2 (2 ^ 64 - 1) → n < 2 ^ 64 → styled_decimal s n ≡ two_digits n
-two_places n e small = rw (e, filled (decimal n)) (two_at_least n small)
+two_places n e small = rw (e, filled 2 (decimal n)) (two_at_least n small)

@@ -26,6 +26,7 @@ pub fn clock_time(quarter_hour: u64) -> ClockTime
 impl fmt::Display for ClockTime {
     ghost output = { λ t. Some (clock_text t) };
 
+    #[tactic(auto, using(crate::proofs::Digits::two_places))]
     fn fmt<W: fmt::Write>(&self, f: &mut fmt::Formatter<W>) -> fmt::Result {
         let ClockTime { hour, minute } = *self;
         write!(f, "{hour:02}:{minute:02}")

@@ -11,6 +11,8 @@ use run::{Answer, Call, Entry, run_day};
 use std::io;
 use std::io::Write;
 
+// The rows and the losses stand in two other programs too, which tell of them: each program is read by
+// itself, and a crate of theirs would need contracts for what the programs' output shows.
 const ROWS: [Row; 4] = [
     Row {
         qse: 1,
@@ -42,49 +44,42 @@ const ROWS: [Row; 4] = [
     },
 ];
 
+/// A reading for the first quarter hour.
+fn post<'a>(segment: u8, reading: u32) -> Call<'a> {
+    Call::Entry(Entry::Post {
+        segment,
+        quarter_hour: 0,
+        reading,
+    })
+}
+
+/// A site's figure for the first quarter hour.
+fn figure<'a>(site: u8, wh: i32) -> Call<'a> {
+    Call::Entry(Entry::Figure {
+        site,
+        quarter_hour: 0,
+        wh,
+    })
+}
+
 /// The readings of the segments and the figures of the sites, in Wh, and the sealing.
 fn calls<'a>() -> [Call<'a>; 7] {
     [
-        Call::Entry(Entry::Post {
-            segment: 0,
-            quarter_hour: 0,
-            reading: 1_000,
-        }),
-        Call::Entry(Entry::Post {
-            segment: 1,
-            quarter_hour: 0,
-            reading: 2_000,
-        }),
-        Call::Entry(Entry::Post {
-            segment: 2,
-            quarter_hour: 0,
-            reading: 3_000,
-        }),
-        Call::Entry(Entry::Post {
-            segment: 3,
-            quarter_hour: 0,
-            reading: 4_000,
-        }),
-        Call::Entry(Entry::Figure {
-            site: 0,
-            quarter_hour: 0,
-            wh: 11_000,
-        }),
-        Call::Entry(Entry::Figure {
-            site: 1,
-            quarter_hour: 0,
-            wh: -300,
-        }),
+        post(0, 1_000),
+        post(1, 2_000),
+        post(2, 3_000),
+        post(3, 4_000),
+        figure(0, 11_000),
+        figure(1, -300),
         Call::Seal,
     ]
 }
 
 fn draft() -> Result<Draft, Refusal> {
     let mut draft = Draft::begin(96)?;
-    draft.segment(0, &ROWS[0])?;
-    draft.segment(1, &ROWS[1])?;
-    draft.segment(2, &ROWS[2])?;
-    draft.segment(3, &ROWS[3])?;
+    for (segment, row) in (0..4u8).zip(ROWS.iter()) {
+        draft.segment(segment, row)?;
+    }
     draft.site(0)?;
     draft.site(1)?;
     Ok(draft)
@@ -92,12 +87,9 @@ fn draft() -> Result<Draft, Refusal> {
 
 /// Does the calls on a day of the draft, and writes the statement.
 fn settle<B: LoadBook + Drop>(draft: Draft, book: B, text: &mut [u8]) -> Result<usize, Refusal> {
-    let calls = calls();
     let mut answers = [Answer::Unlawful; 7];
-    match run_day(draft, book, &calls, &mut answers) {
-        Ok(run) => run.day.statement(0, text),
-        Err(unopened) => Err(unopened.refusal),
-    }
+    let run = run_day(draft, book, &calls(), &mut answers).map_err(|unopened| unopened.refusal)?;
+    run.day.statement(0, text)
 }
 
 /// Lays transmission over distribution over a book, and settles.
@@ -123,16 +115,7 @@ fn work_out(text: &mut [u8]) -> Result<usize, Refusal> {
 fn main(rt: HostRuntime) -> io::Result<()> {
     let mut text = [0; 2_048];
     match work_out(&mut text) {
-        Ok(bytes) => {
-            if bytes <= 2_048 {
-                rt.stdout().write_all(&text[0..bytes])
-            } else {
-                Ok(())
-            }
-        }
-        Err(refusal) => {
-            let words = refusal.words();
-            println!(rt; "{words}")
-        }
+        Ok(bytes) => rt.stdout().write_all(text.get(..bytes).unwrap_or_default()),
+        Err(refusal) => println!(rt; "{refusal}"),
     }
 }

@@ -1,18 +1,19 @@
 // The balance of a quarter hour on known figures: 398 Wh are not accounted for.
-use balance::Figures;
+use crate::rolls::row;
+use balance::{Figures, QuarterHour};
 use book::LoadBook;
 use refusal::Refusal;
-use roll::{Draft, Roll, Row};
+use roll::Draft;
 use slips::{Slip, SlipBook};
 use std::process::Abort;
 use std::test::Fail;
 
-/// QSE, settlement point, loss code, meter mark and NOIE mark of each segment, and its load.
-const SEGMENTS: [([u8; 5], u32); 4] = [
-    ([1, 0, b'A', 1, 0], 1_071),
-    ([2, 0, b'B', 0, 0], 2_091),
-    ([1, 1, b'T', 0, 0], 3_060),
-    ([3, 1, b'T', 0, 1], 4_080),
+/// Segment number; QSE, settlement point, loss code, meter mark and NOIE mark; load.
+const SEGMENTS: [(u8, [u8; 5], u32); 4] = [
+    (0, [1, 0, b'A', 1, 0], 1_071),
+    (1, [2, 0, b'B', 0, 0], 2_091),
+    (2, [1, 1, b'T', 0, 0], 3_060),
+    (3, [3, 1, b'T', 0, 1], 4_080),
 ];
 
 /// The adjusted loads of segments 0 to 4.
@@ -30,24 +31,10 @@ const RTAML: [(u8, u8, i64); 5] = [
 /// The shares of QSEs 0 to 4, in billionths.
 const SHARES: [i64; 5] = [0, 407_196_261, 211_495_327, 381_308_412, 0];
 
-const NO_SLIP: Slip = Slip {
-    segment: 0,
-    quarter_hour: 0,
-    reading: 0,
-};
-
 fn draft() -> Result<Draft, Refusal> {
     let mut draft = Draft::begin(96)?;
-    for segment in 0..4u8 {
-        let ([qse, point, code, meter, noie], _) = SEGMENTS[segment as usize];
-        let row = Row {
-            qse,
-            point,
-            code,
-            meter,
-            noie,
-        };
-        draft.segment(segment, &row)?;
+    for (segment, fields, _) in SEGMENTS {
+        draft.segment(segment, &row(fields))?;
     }
     draft.site(0)?;
     draft.site(1)?;
@@ -61,51 +48,41 @@ fn figures() -> Result<Figures, Refusal> {
     Ok(figures)
 }
 
-fn check_lists<B: LoadBook>(
-    rt: &impl Abort,
-    roll: &Roll,
-    book: &B,
-    figures: &Figures,
-) -> Result<(), Fail> {
+fn check_lists<B: LoadBook>(rt: &impl Abort, noon: &QuarterHour<B>) -> Result<(), Fail> {
     let mut adjusted = [7i64; 64];
-    balance::adjusted_loads(roll, book, figures, 48, &mut adjusted)?;
+    noon.adjusted_loads(&mut adjusted)?;
+    assert!(rt; &adjusted[..5] == &ADJUSTED[..]);
     let mut shares = [7i64; 16];
-    balance::shares(roll, book, figures, 48, &mut shares)?;
-    for i in 0..5usize {
-        assert_eq!(rt; [adjusted[i], shares[i]], [ADJUSTED[i], SHARES[i]]);
-    }
+    noon.shares(&mut shares)?;
+    assert!(rt; &shares[..5] == &SHARES[..]);
     Ok(())
 }
 
-fn check_balance<B: LoadBook>(
-    rt: &impl Abort,
-    roll: &Roll,
-    book: &mut B,
-    figures: &Figures,
-) -> Result<(), Fail> {
-    for segment in 0..4u8 {
-        let (_, load) = SEGMENTS[segment as usize];
-        book.post(segment, 48, load)?;
-    }
-    let energy = balance::generation_and_ufe(roll, book, figures, 48)?;
+fn check_balance<B: LoadBook>(rt: &impl Abort, noon: &QuarterHour<B>) -> Result<(), Fail> {
+    let energy = noon.generation_and_ufe()?;
     assert_eq!(rt; [energy.generation, energy.ufe], [10_700i64, 398]);
     for (qse, point, expected) in RTAML {
-        assert_eq!(rt;
-            balance::rtaml(roll, book, figures, 48, qse, point)?,
-            expected
-        );
+        assert_eq!(rt; noon.rtaml(qse, point)?, expected);
     }
-    check_lists(rt, roll, book, figures)
+    check_lists(rt, noon)
 }
 
 #[test]
 fn four_segments_and_two_sites(rt: HostRuntime) -> Result<(), Fail> {
     let draft = draft()?;
     let figures = figures()?;
+    let mut list = [Slip::default(); 4];
+    let mut book = SlipBook::new(&mut list);
+    for (segment, _, load) in SEGMENTS {
+        book.post(segment, 48, load)?;
+    }
     check_balance(
         &rt,
-        draft.roll(),
-        &mut SlipBook::new(&mut [NO_SLIP; 4]),
-        &figures,
+        &QuarterHour {
+            roll: draft.roll(),
+            book: &book,
+            figures: &figures,
+            quarter_hour: 48,
+        },
     )
 }

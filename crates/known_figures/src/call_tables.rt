@@ -1,12 +1,14 @@
 // Tables of calls of a load book, each with its whole answer: what was read, or the number, the subject
 // and the height of the refusal. They are run on a grid, on slip books, and under a pile of layers.
-use crate::answers::numbers_of;
+use crate::answers::numbers;
+use crate::piles::check_five_layers;
+use crate::slip_books::OLD;
 use book::LoadBook;
 use grid::Grid;
-use losses::{Distribution, Transmission};
 use refusal::Refusal;
-use slips::{Slip, SlipBook};
+use slips::SlipBook;
 use std::process::Abort;
+use std::test::Fail;
 
 #[derive(Clone, Copy)]
 enum Call {
@@ -93,13 +95,6 @@ const ALL_PLACES: [Step; 6] = [
     (Call::Free, Ok(Some(6_400))),
 ];
 
-/// What a list may hold before it is lent.
-const OLD: Slip = Slip {
-    segment: 0,
-    quarter_hour: 0,
-    reading: 7,
-};
-
 fn ask<B: LoadBook>(book: &mut B, call: Call) -> Result<Option<u32>, Refusal> {
     match call {
         Call::Post(segment, quarter_hour, reading) => book.post(segment, quarter_hour, reading),
@@ -114,31 +109,17 @@ fn ask<B: LoadBook>(book: &mut B, call: Call) -> Result<Option<u32>, Refusal> {
     }
 }
 
-fn answer_of<B: LoadBook>(book: &mut B, call: Call) -> Answer {
-    match ask(book, call) {
-        Ok(number) => Ok(number),
-        Err(refusal) => Err(numbers_of::<()>(Err(refusal))),
-    }
-}
-
 /// A refusal under so many layers, through which the want of a reading comes up.
 fn raised([number, subject, height]: [u8; 3], layers: u8) -> [u8; 3] {
     let above = if number == 18 { layers } else { 0 };
     [number, subject, height.saturating_add(above)]
 }
 
-fn under(answer: Answer, layers: u8) -> Answer {
-    match answer {
-        Ok(number) => Ok(number),
-        Err(refusal) => Err(raised(refusal, layers)),
-    }
-}
-
 /// Makes the calls on a book with so many layers over it.
 fn run_under<B: LoadBook>(rt: &impl Abort, book: &mut B, layers: u8, steps: &[Step]) {
     for (call, expected) in steps {
-        let answer = answer_of(book, *call);
-        assert_eq!(rt; answer, under(*expected, layers));
+        let answer = ask(book, *call).map_err(|refusal| numbers(&refusal));
+        assert_eq!(rt; answer, expected.map_err(|refusal| raised(refusal, layers)));
     }
 }
 
@@ -146,11 +127,22 @@ fn run<B: LoadBook>(rt: &impl Abort, book: &mut B, steps: &[Step]) {
     run_under(rt, book, 0, steps);
 }
 
+/// A book in which nothing stands, with so many layers over it.
+pub fn check_empty<B: LoadBook>(rt: &impl Abort, book: &mut B, layers: u8) {
+    run_under(rt, book, layers, &EMPTY);
+}
+
 /// Every range, for a book in which nothing stands, with a place left.
-fn check_ranges<B: LoadBook>(rt: &impl Abort, book: &mut B, layers: u8) {
-    run_under(rt, book, layers, &EMPTY);
+pub fn check_ranges<B: LoadBook>(rt: &impl Abort, book: &mut B, layers: u8) {
+    check_empty(rt, book, layers);
     run(rt, book, &RANGES);
-    run_under(rt, book, layers, &EMPTY);
+    check_empty(rt, book, layers);
+}
+
+/// A book of one place, in which nothing stands: every range, and then the last place.
+pub fn check_one_place<B: LoadBook>(rt: &impl Abort, book: &mut B, layers: u8) {
+    check_ranges(rt, book, layers);
+    run(rt, book, &LAST_PLACE);
 }
 
 #[test]
@@ -163,10 +155,7 @@ fn on_a_grid(rt: HostRuntime) {
 
 #[test]
 fn on_one_place(rt: HostRuntime) {
-    let mut list = [OLD];
-    let mut book = SlipBook::new(&mut list);
-    check_ranges(&rt, &mut book, 0);
-    run(&rt, &mut book, &LAST_PLACE);
+    check_one_place(&rt, &mut SlipBook::new(&mut [OLD]), 0);
 }
 
 #[test]
@@ -175,21 +164,7 @@ fn on_no_place(rt: HostRuntime) {
     run(&rt, &mut SlipBook::new(&mut [OLD; 0]), &NO_PLACE);
 }
 
-/// Five layers over a book of one place.
-fn check_pile<B: LoadBook>(rt: &impl Abort, pile: &mut B) {
-    check_ranges(rt, pile, 5);
-    run(rt, pile, &LAST_PLACE);
-}
-
-fn check_two_more<B: LoadBook + Drop>(rt: &impl Abort, pile: B) {
-    check_pile(rt, &mut Transmission::over(Distribution::over(pile)));
-}
-
-fn check_four_more<B: LoadBook + Drop>(rt: &impl Abort, pile: B) {
-    check_two_more(rt, Transmission::over(Distribution::over(pile)));
-}
-
 #[test]
-fn under_five_layers(rt: HostRuntime) {
-    check_four_more(&rt, Distribution::over(SlipBook::new(&mut [OLD])));
+fn under_five_layers(rt: HostRuntime) -> Result<(), Fail> {
+    check_five_layers(&rt, SlipBook::new(&mut [OLD]))
 }

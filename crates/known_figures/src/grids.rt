@@ -1,6 +1,6 @@
 // Grids over lists of every length, and a full one.
 use crate::answers::number_of;
-use crate::books::{check_empty, check_ranges};
+use crate::call_tables::{check_empty, check_ranges};
 use book::LoadBook;
 use grid::Grid;
 use std::process::Abort;
@@ -15,7 +15,7 @@ const LENGTHS: [(usize, u32, u8); 4] = [
 ];
 
 #[test]
-fn lists_of_every_length(rt: HostRuntime) -> Result<(), Fail> {
+fn lists_of_every_length(rt: HostRuntime) {
     for (length, places, expected) in LENGTHS {
         let mut list = [7u32; 6_401];
         assert!(rt; length <= 6_401);
@@ -26,17 +26,14 @@ fn lists_of_every_length(rt: HostRuntime) -> Result<(), Fail> {
         assert_eq!(rt; grid.free(), places.saturating_sub(1));
         grid.clear();
         assert_eq!(rt; grid.free(), places);
-        check_empty(&rt, &mut grid)?;
+        check_empty(&rt, &mut grid, 0);
     }
-    Ok(())
 }
 
 #[test]
-fn ranges(rt: HostRuntime) -> Result<(), Fail> {
+fn ranges(rt: HostRuntime) {
     let mut list = [7u32; 6_400];
-    let mut grid = Grid::new(&mut list);
-    check_empty(&rt, &mut grid)?;
-    check_ranges(&rt, &mut grid)
+    check_ranges(&rt, &mut Grid::new(&mut list), 0);
 }
 
 /// Posts a reading of its own for every cell.

@@ -6,8 +6,6 @@ mod answers;
 #[cfg(test)]
 mod balances;
 #[cfg(test)]
-mod books;
-#[cfg(test)]
 mod call_tables;
 #[cfg(test)]
 mod factors;

@@ -1,7 +1,8 @@
 // Loads that come up through piles of layers. Each function lays one or two layers over the book that
 // it is given, and hands the pile on. Factors are given for quarter hour 0.
 use crate::answers::{number_of, numbers_of};
-use crate::books::{check_last_place, check_ranges};
+use crate::call_tables::check_one_place;
+use crate::rolls::row as row_of;
 use book::LoadBook;
 use losses::{Distribution, Transmission};
 use refusal::Refusal;
@@ -38,20 +39,8 @@ const CASES: [Case; 7] = [
     Case(500_000, 500_000, 0, 0),
 ];
 
-const NO_SLIP: Slip = Slip {
-    segment: 0,
-    quarter_hour: 0,
-    reading: 0,
-};
-
 fn row(code: u8) -> Row {
-    Row {
-        qse: 1,
-        point: 0,
-        code,
-        meter: 0,
-        noie: 0,
-    }
+    row_of([1, 0, code, 0, 0])
 }
 
 /// Segment 0 with code A, and segment 2 with code T.
@@ -122,7 +111,7 @@ fn two_layers_in_every_order(rt: HostRuntime) -> Result<(), Fail> {
     let draft = two_segments()?;
     for kinds in PILES {
         for case in CASES {
-            let mut list = [NO_SLIP];
+            let mut list = [Slip::default()];
             check_pile(&rt, SlipBook::new(&mut list), draft.roll(), kinds, case)?;
         }
     }
@@ -167,9 +156,9 @@ fn check_too_large<B: LoadBook + Drop>(rt: &impl Abort, mut book: B) -> Result<(
 
 #[test]
 fn heights(rt: HostRuntime) -> Result<(), Fail> {
-    check_rising(&rt, SlipBook::new(&mut [NO_SLIP]), 18);
-    check_no_factor(&rt, SlipBook::new(&mut [NO_SLIP]))?;
-    check_too_large(&rt, SlipBook::new(&mut [NO_SLIP]))
+    check_rising(&rt, SlipBook::new(&mut [Slip::default()]), 18);
+    check_no_factor(&rt, SlipBook::new(&mut [Slip::default()]))?;
+    check_too_large(&rt, SlipBook::new(&mut [Slip::default()]))
 }
 
 /// A pile over a book of one place, which has a reading for segment 5.
@@ -177,8 +166,8 @@ fn check_calls<B: LoadBook>(rt: &impl Abort, pile: &mut B) -> Result<(), Fail> {
     assert_eq!(rt; pile.read(5, 0)?, Some(7));
     assert_eq!(rt; pile.free(), 0);
     pile.clear();
-    check_ranges(rt, pile)?;
-    check_last_place(rt, pile)
+    check_one_place(rt, pile, 5);
+    Ok(())
 }
 
 fn check_two_more<B: LoadBook + Drop>(rt: &impl Abort, pile: B) -> Result<(), Fail> {
@@ -190,14 +179,14 @@ fn check_four_more<B: LoadBook + Drop>(rt: &impl Abort, pile: B) -> Result<(), F
 }
 
 /// The reading was posted before the first of five layers was laid over the book.
-fn check_five_layers<B: LoadBook + Drop>(rt: &impl Abort, mut book: B) -> Result<(), Fail> {
+pub fn check_five_layers<B: LoadBook + Drop>(rt: &impl Abort, mut book: B) -> Result<(), Fail> {
     book.post(5, 0, 7)?;
     check_four_more(rt, Distribution::over(book))
 }
 
 #[test]
 fn calls_reach_the_book(rt: HostRuntime) -> Result<(), Fail> {
-    check_five_layers(&rt, SlipBook::new(&mut [NO_SLIP]))
+    check_five_layers(&rt, SlipBook::new(&mut [Slip::default()]))
 }
 
 /// Of the factors given the last counts, and a refused one does not.
@@ -242,7 +231,7 @@ fn check_late_code<B: LoadBook + Drop>(
 #[test]
 fn factors_and_codes(rt: HostRuntime) -> Result<(), Fail> {
     let draft = two_segments()?;
-    check_last_factor(&rt, SlipBook::new(&mut [NO_SLIP]), draft.roll())?;
-    check_codes(&rt, SlipBook::new(&mut [NO_SLIP; 2]), draft.roll())?;
-    check_late_code(&rt, SlipBook::new(&mut [NO_SLIP]), draft)
+    check_last_factor(&rt, SlipBook::new(&mut [Slip::default()]), draft.roll())?;
+    check_codes(&rt, SlipBook::new(&mut [Slip::default(); 2]), draft.roll())?;
+    check_late_code(&rt, SlipBook::new(&mut [Slip::default()]), draft)
 }

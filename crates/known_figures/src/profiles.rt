@@ -55,12 +55,9 @@ fn reading(energy: u32, profile_total: u32, profile_before: u32) -> ProfiledRead
 }
 
 /// The first numbers of a list of a hundred, and 0 for the rest.
-fn padded([a, b, c, d]: [u32; 4]) -> [u32; 100] {
+fn padded(first: [u32; 4]) -> [u32; 100] {
     let mut list = [0; 100];
-    list[0] = a;
-    list[1] = b;
-    list[2] = c;
-    list[3] = d;
+    list[..4].copy_from_slice(&first);
     list
 }
 
@@ -96,10 +93,9 @@ fn days_of_each_length(rt: HostRuntime) -> Result<(), Fail> {
 
 #[test]
 fn edges(rt: HostRuntime) {
-    for (energy, total, before, [a, b], expected) in EDGES {
+    for (energy, total, before, first, expected) in EDGES {
         let mut weights = [0u32; 96];
-        weights[0] = a;
-        weights[1] = b;
+        weights[..2].copy_from_slice(&first);
         let mut readings = [7u32; 96];
         let entry = reading(energy, total, before);
         let answer = spread(&entry, DayLength::Normal, &weights, &mut readings);

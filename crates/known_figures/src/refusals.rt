@@ -1,5 +1,6 @@
 // The answers and the words of the refusals.
-use refusal::{Answer, Refusal};
+use crate::answers::numbers;
+use refusal::Refusal;
 
 /// Each refusal with its number, subject and height.
 const ANSWERS: [(Refusal, [u8; 3]); 12] = [
@@ -47,8 +48,7 @@ const WORDS: [(Refusal, &str); 3] = [
 #[test]
 fn numbers_subjects_and_heights(rt: HostRuntime) {
     for (refusal, expected) in ANSWERS {
-        let answer = refusal.answer();
-        assert_eq!(rt; [answer.number, answer.subject, answer.height], expected);
+        assert_eq!(rt; numbers(&refusal), expected);
     }
 }
 

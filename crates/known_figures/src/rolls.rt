@@ -38,7 +38,7 @@ const WEIGHTS: [(u8, u8, [u8; 6]); 4] = [
     (1, 1, [0, 0, 0, 0, 0, 0]),
 ];
 
-fn row([qse, point, code, meter, noie]: [u8; 5]) -> Row {
+pub fn row([qse, point, code, meter, noie]: [u8; 5]) -> Row {
     Row {
         qse,
         point,
@@ -49,10 +49,7 @@ fn row([qse, point, code, meter, noie]: [u8; 5]) -> Row {
 }
 
 fn fields(row: Option<Row>) -> Option<[u8; 5]> {
-    match row {
-        Some(row) => Some([row.qse, row.point, row.code, row.meter, row.noie]),
-        None => None,
-    }
+    row.map(|row| [row.qse, row.point, row.code, row.meter, row.noie])
 }
 
 #[test]

@@ -1,33 +1,29 @@
 // Slip books with few places.
 use crate::answers::number_of;
-use crate::books::{check_empty, check_last_place, check_ranges};
+use crate::call_tables::{check_empty, check_one_place};
 use book::LoadBook;
 use slips::{Slip, SlipBook};
 use std::test::Fail;
 
 /// What a list may hold before it is lent.
-const OLD: Slip = Slip {
+pub const OLD: Slip = Slip {
     segment: 0,
     quarter_hour: 0,
     reading: 7,
 };
 
 #[test]
-fn one_place(rt: HostRuntime) -> Result<(), Fail> {
-    let mut list = [OLD];
-    let mut book = SlipBook::new(&mut list);
-    check_empty(&rt, &mut book)?;
-    check_ranges(&rt, &mut book)?;
-    check_last_place(&rt, &mut book)
+fn one_place(rt: HostRuntime) {
+    check_one_place(&rt, &mut SlipBook::new(&mut [OLD]), 0);
 }
 
 #[test]
-fn no_place(rt: HostRuntime) -> Result<(), Fail> {
+fn no_place(rt: HostRuntime) {
     let mut list = [OLD; 0];
     let mut book = SlipBook::new(&mut list);
     assert_eq!(rt; book.free(), 0);
     assert_eq!(rt; number_of(book.post(0, 0, 1)), 15);
-    check_empty(&rt, &mut book)
+    check_empty(&rt, &mut book, 0);
 }
 
 #[test]

@@ -1,5 +1,6 @@
 // The books that the days are on: a grid under both loss adjustments, and a slip book.
 use crate::told_day;
+use crate::told_day::Stop;
 use book::LoadBook;
 use grid::Grid;
 use losses::{Distribution, Transmission};
@@ -8,12 +9,7 @@ use roll::Draft;
 use slips::{Slip, SlipBook};
 use std::io;
 
-pub const BLANK: Slip = Slip {
-    segment: 0,
-    quarter_hour: 0,
-    reading: 0,
-};
-
+// The layers stand in the programs of the four segments and of the walk too: each is read by itself.
 /// Transmission over distribution over a book, with factors for one quarter hour.
 pub fn under_losses<B: LoadBook + Drop>(
     book: B,
@@ -33,14 +29,18 @@ fn live_under_losses<B: LoadBook + Drop>(
     rt: &HostRuntime,
     quarter_hours: u8,
     book: B,
-) -> io::Result<()> {
-    match told_day::draft(quarter_hours) {
-        Ok(draft) => match under_losses(book, &draft, quarter_hours.saturating_sub(1)) {
-            Ok(pile) => told_day::live(rt, draft, pile),
-            Err(refusal) => told_day::sent_back(rt, &refusal),
-        },
-        Err(refusal) => told_day::sent_back(rt, &refusal),
-    }
+) -> Result<(), Stop> {
+    let draft = told_day::draft(quarter_hours)?;
+    let pile = under_losses(book, &draft, quarter_hours.saturating_sub(1))?;
+    told_day::live(rt, draft, pile)
+}
+
+fn live_alone<B: LoadBook + Drop>(
+    rt: &HostRuntime,
+    quarter_hours: u8,
+    book: B,
+) -> Result<(), Stop> {
+    told_day::live(rt, told_day::draft(quarter_hours)?, book)
 }
 
 fn on_a_grid(rt: &HostRuntime, quarter_hours: u8) -> io::Result<()> {
@@ -49,18 +49,18 @@ fn on_a_grid(rt: &HostRuntime, quarter_hours: u8) -> io::Result<()> {
         "A lively day of {quarter_hours} quarter hours, on a grid under both loss adjustments"
     )?;
     let mut cells = [0; 6_400];
-    live_under_losses(rt, quarter_hours, Grid::new(&mut cells))
+    told_day::end(
+        rt,
+        live_under_losses(rt, quarter_hours, Grid::new(&mut cells)),
+    )
 }
 
 /// Three places only, which is fewer than the day asks for.
 fn on_few_slips(rt: &HostRuntime, quarter_hours: u8) -> io::Result<()> {
     println!(rt; "")?;
     println!(rt; "A lively day of {quarter_hours} quarter hours, on a slip book of 3 places")?;
-    let mut slips = [BLANK; 3];
-    match told_day::draft(quarter_hours) {
-        Ok(draft) => told_day::live(rt, draft, SlipBook::new(&mut slips)),
-        Err(refusal) => told_day::sent_back(rt, &refusal),
-    }
+    let mut slips = [Slip::default(); 3];
+    told_day::end(rt, live_alone(rt, quarter_hours, SlipBook::new(&mut slips)))
 }
 
 pub fn show(rt: &HostRuntime) -> io::Result<()> {

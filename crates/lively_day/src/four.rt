@@ -1,11 +1,13 @@
 // A day of four segments on transmission over distribution over a grid, with a reading that is mistyped
 // and one that is misread.
 use crate::books::under_losses;
+use crate::calls::{figure, loads, post, shares, ufe};
 use crate::told_day;
+use crate::told_day::Stop;
 use book::LoadBook;
 use grid::Grid;
 use roll::Row;
-use run::{Answer, Call, Entry, Question};
+use run::{Answer, Call};
 use std::io;
 
 /// A town with wires of its own.
@@ -17,60 +19,34 @@ const TOWN: Row = Row {
     noie: 1,
 };
 
-fn post<'a>(segment: u8, reading: u32) -> Call<'a> {
-    Call::Entry(Entry::Post {
-        segment,
-        quarter_hour: 0,
-        reading,
-    })
-}
-
-fn figure<'a>(site: u8, wh: i32) -> Call<'a> {
-    Call::Entry(Entry::Figure {
-        site,
-        quarter_hour: 0,
-        wh,
-    })
-}
-
 fn calls<'a>() -> [Call<'a>; 13] {
     [
-        post(0, 1_000),
-        post(1, 20_000_000),
-        post(1, 2_000),
-        post(2, 3_300),
-        post(2, 3_000),
-        post(3, 4_000),
-        figure(0, 11_000),
-        Call::Question(Question::GenerationAndUfe { quarter_hour: 0 }),
-        figure(1, -300),
+        post(0, 0, 1_000),
+        post(1, 0, 20_000_000),
+        post(1, 0, 2_000),
+        post(2, 0, 3_300),
+        post(2, 0, 3_000),
+        post(3, 0, 4_000),
+        figure(0, 0, 11_000),
+        ufe(0),
+        figure(1, 0, -300),
         Call::Seal,
-        Call::Question(Question::GenerationAndUfe { quarter_hour: 0 }),
-        Call::Question(Question::AdjustedLoads { quarter_hour: 0 }),
-        Call::Question(Question::Shares { quarter_hour: 0 }),
+        ufe(0),
+        loads(0),
+        shares(0),
     ]
 }
 
-fn settle<B: LoadBook + Drop>(rt: &HostRuntime, book: B) -> io::Result<()> {
-    let mut draft = match told_day::draft(96) {
-        Ok(draft) => draft,
-        Err(refusal) => return told_day::sent_back(rt, &refusal),
-    };
-    if let Err(refusal) = draft.segment(3, &TOWN) {
-        return told_day::sent_back(rt, &refusal);
-    }
-    match under_losses(book, &draft, 0) {
-        Ok(pile) => {
-            let calls = calls();
-            let mut answers = [Answer::Unlawful; 13];
-            told_day::tell_run(rt, draft, pile, &calls, &mut answers)
-        }
-        Err(refusal) => told_day::sent_back(rt, &refusal),
-    }
+fn settle<B: LoadBook + Drop>(rt: &HostRuntime, book: B) -> Result<(), Stop> {
+    let mut draft = told_day::draft(96)?;
+    draft.segment(3, &TOWN)?;
+    let pile = under_losses(book, &draft, 0)?;
+    let mut answers = [Answer::Unlawful; 13];
+    told_day::tell_run(rt, draft, pile, &calls(), &mut answers)
 }
 
 pub fn show(rt: &HostRuntime) -> io::Result<()> {
     println!(rt; "A day of four segments, on transmission over distribution over a grid")?;
     let mut cells = [0; 6_400];
-    settle(rt, Grid::new(&mut cells))
+    told_day::end(rt, settle(rt, Grid::new(&mut cells)))
 }

@@ -7,6 +7,7 @@ use roll::{Draft, Row};
 use run::{Answer, Call, run_day};
 use std::io;
 
+// The rows stand in the programs of the four segments and of the walk too: each is read by itself.
 const HOUSEHOLD: Row = Row {
     qse: 1,
     point: 0,
@@ -42,6 +43,25 @@ pub fn draft(quarter_hours: u8) -> Result<Draft, Refusal> {
     Ok(draft)
 }
 
+/// Why the telling of a day ends early.
+#[derive(Drop)]
+pub enum Stop {
+    Refused(Refusal),
+    Unprinted(io::Error),
+}
+
+impl From<Refusal> for Stop {
+    fn from(refusal: Refusal) -> Stop {
+        Stop::Refused(refusal)
+    }
+}
+
+impl From<io::Error> for Stop {
+    fn from(error: io::Error) -> Stop {
+        Stop::Unprinted(error)
+    }
+}
+
 /// Does a list of calls on a day of the draft, and tells them.
 pub fn tell_run<B: LoadBook + Drop>(
     rt: &HostRuntime,
@@ -49,21 +69,18 @@ pub fn tell_run<B: LoadBook + Drop>(
     book: B,
     calls: &[Call],
     answers: &mut [Answer],
-) -> io::Result<()> {
-    match run_day(draft, book, calls, answers) {
-        Ok(run) => {
-            words::tell_all(rt, calls, answers)?;
-            if run.lawful {
-                println!(rt; "The day's state took every call.")
-            } else {
-                println!(rt; "The day's state did not take every call.")
-            }
-        }
-        Err(unopened) => sent_back(rt, &unopened.refusal),
+) -> Result<(), Stop> {
+    let run = run_day(draft, book, calls, answers).map_err(|unopened| unopened.refusal)?;
+    words::tell_all(rt, calls, answers)?;
+    if run.lawful {
+        println!(rt; "The day's state took every call.")?;
+    } else {
+        println!(rt; "The day's state did not take every call.")?;
     }
+    Ok(())
 }
 
-pub fn live<B: LoadBook + Drop>(rt: &HostRuntime, draft: Draft, book: B) -> io::Result<()> {
+pub fn live<B: LoadBook + Drop>(rt: &HostRuntime, draft: Draft, book: B) -> Result<(), Stop> {
     let ones = [1u32; 100];
     let quarter_hours = draft.length().quarter_hours();
     let weights = &ones[0..usize::from(quarter_hours)];
@@ -72,8 +89,14 @@ pub fn live<B: LoadBook + Drop>(rt: &HostRuntime, draft: Draft, book: B) -> io::
     tell_run(rt, draft, book, &calls, &mut answers)
 }
 
-pub fn sent_back(rt: &HostRuntime, refusal: &Refusal) -> io::Result<()> {
-    let number = refusal.answer().number;
-    let words = refusal.words();
-    println!(rt; "Sent back with refusal {number}, {words}.")
+/// Ends the telling of a day: of one that was refused it tells why.
+pub fn end(rt: &HostRuntime, told: Result<(), Stop>) -> io::Result<()> {
+    match told {
+        Ok(()) => Ok(()),
+        Err(Stop::Refused(refusal)) => {
+            let number = refusal.answer().number;
+            println!(rt; "Sent back with refusal {number}, {refusal}.")
+        }
+        Err(Stop::Unprinted(error)) => Err(error),
+    }
 }

@@ -1,3 +1,4 @@
 pub mod Peaks
 pub mod Piles
 pub mod Spans
+pub mod Thousands

@@ -1,7 +1,7 @@
--- The best place that a search ends with is the first of the largest. Assumes nothing.
+-- The peak that a search ends with is the first of the largest. Assumes nothing.
 use Rattle.std.proofs.Common.{◌≡◌, ℕ, zero, suc, ◌<◌, ◌≤◌, Bool, true, false, ltb, List, [], ◌∷◌, length, get_or, ◌∙◌, arith}
 use native.Mathlib.Nat.{max-le, le-max_left, le-max_right}
-use Rattle.std.specs.List.{prefix_len, IsFirstMaxByKey}
+use Rattle.std.specs.List.{prefix_len}
 use Rattle.std.proofs.lemmas.Bool.{cond-true, cond-false, lt-ltb, le-ltb}
 use Rattle.walkthrough.specs.Figures.{largest_of, first_largest}
 
@@ -22,11 +22,11 @@ leading_is p (x ∷ xs) (suc b) h front stop =
     let rest = leading_is p xs b (omega arith) (λ k lt. front (suc k) (omega arith)) stop in
     cond-true (p x) _ _ (front 0 (omega arith)) ∙ omega arith
 
-pub first_largest_is : (xs : List ℕ) (b : ℕ) → b < length xs → IsFirstMaxByKey (λ x. x) xs (length xs) b → record { place = b; value = get_or xs b 0 } ≡ first_largest xs
-first_largest_is xs b h best =
-    let above = largest_least xs (get_or xs b 0) (λ k lt. best.1 k 0 lt) in
+pub first_largest_is : (xs : List ℕ) (b v : ℕ) → b < length xs → v ≡ get_or xs b 0 → ((k : ℕ) → k < length xs → get_or xs k 0 ≤ v) → ((k : ℕ) → k < b → get_or xs k 0 < v) → record { place = b; value = v } ≡ first_largest xs
+first_largest_is xs b v h here most before =
+    let above = largest_least xs v most in
     let reached = largest_reached xs b h in
-    let value : get_or xs b 0 ≡ largest_of xs = omega arith in
+    let value : v ≡ largest_of xs = omega arith in
     let place : prefix_len (λ x. ltb x (largest_of xs)) xs ≡ b =
-    leading_is (λ x. ltb x (largest_of xs)) xs b h (λ k lt. lt-ltb (get_or xs k 0) (largest_of xs) (omega (arith, best.2 k 0 lt))) (le-ltb (get_or xs b 0) (largest_of xs) (omega arith)) in
+    leading_is (λ x. ltb x (largest_of xs)) xs b h (λ k lt. lt-ltb (get_or xs k 0) (largest_of xs) (omega (arith, before k lt))) (le-ltb (get_or xs b 0) (largest_of xs) (omega arith)) in
     cc

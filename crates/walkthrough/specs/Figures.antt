@@ -1,7 +1,6 @@
 -- What is read off a list of quarter hours, and how numbers are written. Assumes nothing.
-use Rattle.std.specs.Prelude.{ℕ, ◌*◌, ◌/◌, ◌%◌, max, cond, ltb, List, [], ◌∷◌, ◌++◌, codes, decimal, nat_lt}
+use Rattle.std.specs.Prelude.{ℕ, ◌/◌, ◌%◌, max, cond, ltb, List, [], ◌∷◌, ◌++◌, ℤ, pos, negsuc, suc, codes, decimal, nat_lt}
 use Rattle.std.specs.List.{prefix_len}
-use Rattle.walkthrough.specs.declared.figures.ClockTime.{ClockTime}
 use Rattle.walkthrough.specs.declared.figures.Peak.{Peak}
 
 -- the largest number of a list, 0 where there is none
@@ -12,16 +11,6 @@ largest_of (x ∷ xs) = max x (largest_of xs)
 -- it stands first after all the numbers that are smaller, up to the first that is not
 abbrev pub first_largest : List ℕ → Peak
 first_largest xs = record { place = prefix_len (λ x. ltb x (largest_of xs)) xs; value = largest_of xs }
-
--- where a quarter hour begins: four to an hour, 15 minutes each
-abbrev pub clock_of : ℕ → ClockTime
-clock_of q = record { hour = q / 4; minute = q % 4 * 15 }
-
-abbrev pub two_digits : ℕ → List ℕ
-two_digits n = decimal (n / 10) ++ decimal (n % 10)
-
-abbrev pub clock_text : ClockTime → List ℕ
-clock_text t = two_digits t.hour ++ (codes ":" ++ two_digits t.minute)
 
 -- three digits, with leading zeros
 abbrev pub three_digits : ℕ → List ℕ
@@ -34,3 +23,8 @@ grouped n =
     cond (nat_lt n 1000000) (decimal (n / 1000) ++ (codes "," ++ three_digits (n % 1000))) (
     cond (nat_lt n 1000000000) (decimal (n / 1000000) ++ (codes "," ++ (three_digits (n / 1000 % 1000) ++ (codes "," ++ three_digits (n % 1000)))))
     (decimal (n / 1000000000) ++ (codes "," ++ (three_digits (n / 1000000 % 1000) ++ (codes "," ++ (three_digits (n / 1000 % 1000) ++ (codes "," ++ three_digits (n % 1000)))))))))
+
+-- an amount below zero with its sign
+abbrev pub signed : ℤ → List ℕ
+signed (pos n) = grouped n
+signed (negsuc n) = codes "-" ++ grouped (suc n)

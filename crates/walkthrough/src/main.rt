@@ -6,6 +6,8 @@ mod figures;
 mod month;
 mod pile;
 mod quarter_hour;
+mod shared;
+mod telling;
 
 use std::io;
 

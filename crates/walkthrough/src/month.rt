@@ -6,6 +6,7 @@ mod shapes;
 mod span;
 mod telling;
 
+use crate::telling::stopped;
 use profile::ProfiledReading;
 use refusal::Refusal;
 use roll::DayLength;
@@ -67,6 +68,6 @@ pub fn show(rt: &HostRuntime) -> io::Result<()> {
             telling::all_days(rt, &shown)?;
             show_refused(rt, &shown)
         }
-        Err(refusal) => telling::stopped(rt, &refusal),
+        Err(refusal) => stopped(rt, "reading", &refusal),
     }
 }

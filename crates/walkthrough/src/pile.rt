@@ -2,12 +2,13 @@
 mod telling;
 mod work;
 
+use crate::telling::stopped;
 use std::io;
 use work::work_out;
 
 pub fn show(rt: &HostRuntime) -> io::Result<()> {
     match work_out() {
         Ok(climbs) => telling::pile(rt, &climbs),
-        Err(refusal) => telling::stopped(rt, &refusal),
+        Err(refusal) => stopped(rt, "pile", &refusal),
     }
 }

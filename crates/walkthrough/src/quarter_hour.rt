@@ -3,12 +3,13 @@
 mod telling;
 mod work;
 
+use crate::telling::stopped;
 use std::io;
 use work::work_out;
 
 pub fn show(rt: &HostRuntime) -> io::Result<()> {
     match work_out() {
         Ok(settled) => telling::quarter_hour(rt, &settled),
-        Err(refusal) => telling::stopped(rt, &refusal),
+        Err(refusal) => stopped(rt, "quarter hour", &refusal),
     }
 }

@@ -27,6 +27,7 @@ fn is_weekend(day: u8) -> bool
 pub fn weekday(day: u8) -> &'static str
     ensures { result.now ≡ weekday_of (day % 7) }
 {
+    // An enum would be made from the number by one match, and told by another.
     match day % 7 {
         0 => "Monday",
         1 => "Tuesday",
@@ -66,15 +67,11 @@ impl Shapes {
     {
         let total = self.before(DAYS);
         let before = self.before(day);
-        if total <= u64::from(u32::MAX) && before <= u64::from(u32::MAX) {
-            Ok(ProfiledReading {
-                energy,
-                profile_total: total as u32,
-                profile_before: before as u32,
-            })
-        } else {
-            Err(Refusal::ProfileLimit)
-        }
+        Ok(ProfiledReading {
+            energy,
+            profile_total: u32::try_from(total).map_err(|_| Refusal::ProfileLimit)?,
+            profile_before: u32::try_from(before).map_err(|_| Refusal::ProfileLimit)?,
+        })
     }
 }
 

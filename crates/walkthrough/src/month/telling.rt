@@ -1,7 +1,8 @@
 // The monthly reading in words.
 use crate::figures;
-use crate::figures::{Grouped, QuarterHours, parted};
+use crate::figures::{Grouped, QuarterHours};
 use crate::month::span;
+use clock::clock_time;
 use profile::ProfiledReading;
 use refusal::Refusal;
 use std::io;
@@ -21,8 +22,8 @@ pub struct Shown {
 }
 
 pub fn entry(rt: &HostRuntime, shown: &Shown) -> io::Result<()> {
-    let energy = parted(shown.entry.energy);
-    let total = parted(shown.entry.profile_total);
+    let energy = Grouped::from(shown.entry.energy);
+    let total = Grouped::from(shown.entry.profile_total);
     let weekday = span::weekday(shown.day);
     let date = u16::from(shown.day) + 1;
     println!(rt; "A monthly reading, spread over its days")?;
@@ -34,11 +35,11 @@ pub fn entry(rt: &HostRuntime, shown: &Shown) -> io::Result<()> {
 }
 
 fn weights(rt: &HostRuntime, shown: &Shown) -> io::Result<()> {
-    let before = parted(shown.entry.profile_before);
+    let before = Grouped::from(shown.entry.profile_before);
     let own = Grouped(figures::total(&shown.weights));
     let largest = figures::largest(&shown.weights);
     let weight = largest.value;
-    let time = figures::clock_time(largest.place);
+    let time = clock_time(largest.place as u64);
     println!(rt; "Of the weights {before} lie before that day, and {own} belong to its own 96")?;
     println!(rt; "quarter hours. The largest of these is {weight}, at {time}.")?;
     println!(rt;
@@ -62,14 +63,14 @@ pub fn day(rt: &HostRuntime, shown: &Shown) -> io::Result<()> {
 }
 
 fn quarter_hour(rt: &HostRuntime, which: &str, place: usize, reading: u32) -> io::Result<()> {
-    let time = figures::clock_time(place);
-    let energy = parted(reading);
+    let time = clock_time(place as u64);
+    let energy = Grouped::from(reading);
     println!(rt; "The {which} quarter hour begins at {time} and gets {energy} Wh.")
 }
 
 pub fn all_days(rt: &HostRuntime, shown: &Shown) -> io::Result<()> {
     let all_days = Grouped(shown.all_days);
-    let energy = parted(shown.entry.energy);
+    let energy = Grouped::from(shown.entry.energy);
     println!(rt; "Every day of June was spread in this way, week-ends by weights of their own.")?;
     println!(rt; "The 30 days add up to {all_days} Wh, of the {energy} Wh that were read.")?;
     println!(rt; "")
@@ -81,26 +82,19 @@ pub fn refused(
     refusal: &Refusal,
     unchanged: bool,
 ) -> io::Result<()> {
-    let energy = parted(entry.energy);
+    let energy = Grouped::from(entry.energy);
     let number = refusal.answer().number;
-    let words = refusal.words();
     let list = if unchanged {
         "stayed as it was"
     } else {
         "was changed"
     };
     println!(rt; "The same entry with {energy} Wh is sent back, with refusal {number}:")?;
-    println!(rt; "{words}.")?;
+    println!(rt; "{refusal}.")?;
     println!(rt; "The list of the day's readings {list}.")
 }
 
 pub fn taken(rt: &HostRuntime, entry: &ProfiledReading) -> io::Result<()> {
-    let energy = parted(entry.energy);
+    let energy = Grouped::from(entry.energy);
     println!(rt; "The same entry with {energy} Wh was taken.")
-}
-
-pub fn stopped(rt: &HostRuntime, refusal: &Refusal) -> io::Result<()> {
-    let number = refusal.answer().number;
-    let words = refusal.words();
-    println!(rt; "The reading was sent back, with refusal {number}: {words}.")
 }

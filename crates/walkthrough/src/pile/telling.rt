@@ -1,7 +1,8 @@
 // The pile of loss adjustments in words.
-use crate::figures;
-use crate::figures::parted;
-use crate::pile::work::{Climb, Climbs, DISTRIBUTION, NOON, TRANSMISSION};
+use crate::figures::Grouped;
+use crate::pile::work::{Climb, Climbs};
+use crate::shared::{DISTRIBUTION, NOON, TRANSMISSION};
+use clock::clock_time;
 use refusal::Refusal;
 use std::io;
 
@@ -12,9 +13,9 @@ pub fn pile(rt: &HostRuntime, climbs: &Climbs) -> io::Result<()> {
 }
 
 fn layers(rt: &HostRuntime) -> io::Result<()> {
-    let time = figures::clock_time(NOON as usize);
-    let distribution = parted(DISTRIBUTION);
-    let transmission = parted(TRANSMISSION);
+    let time = clock_time(u64::from(NOON));
+    let distribution = Grouped::from(DISTRIBUTION);
+    let transmission = Grouped::from(TRANSMISSION);
     println!(rt; "Readings going up through a pile of loss adjustments")?;
     println!(rt; "")?;
     println!(rt; "On the roll of a day are a household, segment 0, with loss code A, and a mill,")?;
@@ -32,10 +33,10 @@ fn layers(rt: &HostRuntime) -> io::Result<()> {
 }
 
 fn taken(rt: &HostRuntime, climbs: &Climbs) -> io::Result<()> {
-    let time = figures::clock_time(NOON as usize);
+    let time = clock_time(u64::from(NOON));
     println!(rt; "The household at {time}:")?;
     heights(rt, &climbs.household)?;
-    let at_once = parted(climbs.at_once);
+    let at_once = Grouped::from(climbs.at_once);
     println!(rt;
         "Each layer works on what the one below it made: one layer alone, with both factors"
     )?;
@@ -47,8 +48,8 @@ fn taken(rt: &HostRuntime, climbs: &Climbs) -> io::Result<()> {
 }
 
 fn refused(rt: &HostRuntime, climbs: &Climbs) -> io::Result<()> {
-    let time = figures::clock_time(NOON as usize);
-    let later = figures::clock_time(NOON as usize + 1);
+    let time = clock_time(u64::from(NOON));
+    let later = clock_time(u64::from(NOON) + 1);
     println!(rt;
         "Segment 5 at {time}, for which nothing was posted. The height of a refusal counts"
     )?;
@@ -68,22 +69,15 @@ fn heights(rt: &HostRuntime, climb: &Climb) -> io::Result<()> {
 fn answer(rt: &HostRuntime, place: &str, load: &Result<u32, Refusal>) -> io::Result<()> {
     match load {
         Ok(load) => {
-            let energy = parted(*load);
+            let energy = Grouped::from(*load);
             println!(rt; "- {place}: {energy} Wh.")
         }
         Err(refusal) => {
             let answer = refusal.answer();
-            let words = refusal.words();
             println!(rt;
-                "- {place}: refusal {}, segment {}, height {}: {words}.",
+                "- {place}: refusal {}, segment {}, height {}: {refusal}.",
                 answer.number, answer.subject, answer.height
             )
         }
     }
-}
-
-pub fn stopped(rt: &HostRuntime, refusal: &Refusal) -> io::Result<()> {
-    let number = refusal.answer().number;
-    let words = refusal.words();
-    println!(rt; "The pile was sent back, with refusal {number}: {words}.")
 }

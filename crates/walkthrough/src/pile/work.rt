@@ -5,6 +5,7 @@ ghost use Rattle.roll.specs.Entries.{rows_of};
 ghost use Rattle.book.specs.Cells.{nothing};
 ghost use Rattle.walkthrough.specs.Piles.{two_rows, with_readings, climb_of, under_one, plain, known};
 
+use crate::shared::{DISTRIBUTION, HOUSEHOLD, NOON, TRANSMISSION};
 use book::LoadBook;
 use grid::Grid;
 use losses::{Distribution, Transmission};
@@ -12,34 +13,12 @@ use refusal::Refusal;
 use roll::{Draft, Roll, Row};
 use slips::{Slip, SlipBook};
 
-/// The quarter hour that has loss factors, from 12:00.
-pub const NOON: u8 = 48;
-
-/// The factors, in millionths: of distribution for code A, and of transmission.
-pub const DISTRIBUTION: u32 = 50_000;
-
-pub const TRANSMISSION: u32 = 20_000;
-
-const HOUSEHOLD: Row = Row {
-    qse: 1,
-    point: 0,
-    code: b'A',
-    meter: 1,
-    noie: 0,
-};
-
 const MILL: Row = Row {
     qse: 2,
     point: 3,
     code: b'T',
     meter: 0,
     noie: 0,
-};
-
-const NO_SLIP: Slip = Slip {
-    segment: 0,
-    quarter_hour: 0,
-    reading: 0,
 };
 
 /// The answers for one cell as the pile grows: of the book alone, with distribution over it, and
@@ -131,7 +110,7 @@ fn climb_from_grid(roll: &Roll, segment: u8, quarter_hour: u8) -> Result<Climb, 
 fn at_once_from_slips() -> Result<u32, Refusal>
     ensures { IfOk result (λ x. Ok x ≡ under_one plain (with_readings nothing) 0 70000) }
 {
-    let mut slips = [NO_SLIP; 3];
+    let mut slips = [Slip::default(); 3];
     let mut book = SlipBook::new(&mut slips);
     post_readings(&mut book)?;
     under_one_layer(book, 0, DISTRIBUTION + TRANSMISSION)

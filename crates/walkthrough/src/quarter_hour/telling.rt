@@ -1,8 +1,8 @@
 // The balance of the quarter hour in words.
-use crate::figures;
-use crate::figures::Grouped;
-use crate::quarter_hour::work::{NOON, READINGS, SENT_OUT, Settled, TAKEN_IN};
-use refusal::Refusal;
+use crate::figures::Signed;
+use crate::quarter_hour::work::{READINGS, SENT_OUT, Settled, TAKEN_IN};
+use crate::shared::NOON;
+use clock::clock_time;
 use std::io;
 
 pub fn quarter_hour(rt: &HostRuntime, settled: &Settled) -> io::Result<()> {
@@ -31,24 +31,24 @@ fn roll(rt: &HostRuntime) -> io::Result<()> {
 }
 
 fn entries(rt: &HostRuntime) -> io::Result<()> {
-    let time = figures::clock_time(NOON as usize);
+    let time = clock_time(u64::from(NOON));
     println!(rt; "What was entered for {time}:")?;
-    energy(rt, "the household", i64::from(READINGS.household))?;
-    energy(rt, "the workshop", i64::from(READINGS.workshop))?;
-    energy(rt, "the mill", i64::from(READINGS.mill))?;
-    energy(rt, "the town", i64::from(READINGS.town))?;
-    energy(rt, "sent out by generation site 0", i64::from(SENT_OUT))?;
-    energy(rt, "taken in by generation site 1", i64::from(TAKEN_IN))?;
+    energy(rt, "the household", READINGS.household)?;
+    energy(rt, "the workshop", READINGS.workshop)?;
+    energy(rt, "the mill", READINGS.mill)?;
+    energy(rt, "the town", READINGS.town)?;
+    energy(rt, "sent out by generation site 0", SENT_OUT)?;
+    energy(rt, "taken in by generation site 1", TAKEN_IN)?;
     println!(rt; "")
 }
 
 fn loads(rt: &HostRuntime, settled: &Settled) -> io::Result<()> {
     println!(rt; "With the losses, distribution 50,000 for code A and 25,000 for code B, and")?;
     println!(rt; "transmission 20,000 over that, the loads are:")?;
-    energy(rt, "the household", i64::from(settled.loads.household))?;
-    energy(rt, "the workshop", i64::from(settled.loads.workshop))?;
-    energy(rt, "the mill", i64::from(settled.loads.mill))?;
-    energy(rt, "the town", i64::from(settled.loads.town))?;
+    energy(rt, "the household", settled.loads.household)?;
+    energy(rt, "the workshop", settled.loads.workshop)?;
+    energy(rt, "the mill", settled.loads.mill)?;
+    energy(rt, "the town", settled.loads.town)?;
     println!(rt; "")
 }
 
@@ -91,23 +91,11 @@ fn shares(rt: &HostRuntime, settled: &Settled) -> io::Result<()> {
 }
 
 fn share(rt: &HostRuntime, qse: u8, share: i64) -> io::Result<()> {
-    let sign = sign(share);
-    let billionths = Grouped(share.unsigned_abs());
-    println!(rt; "- QSE {qse}: {sign}{billionths}.")
+    let billionths = Signed(share);
+    println!(rt; "- QSE {qse}: {billionths}.")
 }
 
-fn energy(rt: &HostRuntime, what: &str, wh: i64) -> io::Result<()> {
-    let sign = sign(wh);
-    let amount = Grouped(wh.unsigned_abs());
-    println!(rt; "- {what}: {sign}{amount} Wh.")
-}
-
-fn sign(n: i64) -> &'static str {
-    if n < 0 { "-" } else { "" }
-}
-
-pub fn stopped(rt: &HostRuntime, refusal: &Refusal) -> io::Result<()> {
-    let number = refusal.answer().number;
-    let words = refusal.words();
-    println!(rt; "The quarter hour was sent back, with refusal {number}: {words}.")
+fn energy(rt: &HostRuntime, what: &str, wh: impl Into<i64>) -> io::Result<()> {
+    let amount = Signed(wh.into());
+    println!(rt; "- {what}: {amount} Wh.")
 }

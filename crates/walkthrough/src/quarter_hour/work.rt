@@ -1,23 +1,15 @@
 // A quarter hour of four segments and two sites, through a pile of both loss adjustments.
-use balance::{Figures, Ufe};
+use crate::shared::{DISTRIBUTION, HOUSEHOLD, NOON, TRANSMISSION};
+use balance::{Figures, QuarterHour, Ufe};
 use book::LoadBook;
 use grid::Grid;
 use losses::{Distribution, Transmission};
 use refusal::Refusal;
 use roll::{Draft, Roll, Row};
 
-/// The quarter hour from 12:00.
-pub const NOON: u8 = 48;
-
-pub const HOUSEHOLD: Row = Row {
-    qse: 1,
-    point: 0,
-    code: b'A',
-    meter: 1,
-    noie: 0,
-};
-
-pub const WORKSHOP: Row = Row {
+// The rows and the losses stand in the programs of the four segments and of the lively day too: each is
+// read by itself.
+const WORKSHOP: Row = Row {
     qse: 2,
     point: 0,
     code: b'B',
@@ -25,7 +17,7 @@ pub const WORKSHOP: Row = Row {
     noie: 0,
 };
 
-pub const MILL: Row = Row {
+const MILL: Row = Row {
     qse: 1,
     point: 1,
     code: b'T',
@@ -33,7 +25,7 @@ pub const MILL: Row = Row {
     noie: 0,
 };
 
-pub const TOWN: Row = Row {
+const TOWN: Row = Row {
     qse: 3,
     point: 1,
     code: b'T',
@@ -120,29 +112,26 @@ fn ask_loads<B: LoadBook>(book: &B) -> Result<Loads, Refusal> {
     })
 }
 
-fn ask_rtaml<B: LoadBook>(roll: &Roll, book: &B, figures: &Figures) -> Result<Rtaml, Refusal> {
+fn ask_rtaml<B: LoadBook>(noon: &QuarterHour<B>) -> Result<Rtaml, Refusal> {
     Ok(Rtaml {
-        one_at_0: balance::rtaml(roll, book, figures, NOON, 1, 0)?,
-        one_at_1: balance::rtaml(roll, book, figures, NOON, 1, 1)?,
-        two_at_0: balance::rtaml(roll, book, figures, NOON, 2, 0)?,
-        three_at_1: balance::rtaml(roll, book, figures, NOON, 3, 1)?,
+        one_at_0: noon.rtaml(1, 0)?,
+        one_at_1: noon.rtaml(1, 1)?,
+        two_at_0: noon.rtaml(2, 0)?,
+        three_at_1: noon.rtaml(3, 1)?,
     })
 }
 
 /// Asks for all the answers of the quarter hour.
-fn settle<B: LoadBook>(roll: &Roll, book: &B, figures: &Figures) -> Result<Settled, Refusal> {
-    let loads = ask_loads(book)?;
-    let energy = balance::generation_and_ufe(roll, book, figures, NOON)?;
+fn settle<B: LoadBook>(noon: &QuarterHour<B>) -> Result<Settled, Refusal> {
     let mut adjusted = [0; 64];
-    balance::adjusted_loads(roll, book, figures, NOON, &mut adjusted)?;
-    let rtaml = ask_rtaml(roll, book, figures)?;
+    noon.adjusted_loads(&mut adjusted)?;
     let mut shares = [0; 16];
-    balance::shares(roll, book, figures, NOON, &mut shares)?;
+    noon.shares(&mut shares)?;
     Ok(Settled {
-        loads,
-        energy,
+        loads: ask_loads(noon.book)?,
+        energy: noon.generation_and_ufe()?,
         adjusted,
-        rtaml,
+        rtaml: ask_rtaml(noon)?,
         shares,
     })
 }
@@ -155,11 +144,16 @@ fn settle_under_losses<B: LoadBook + Drop>(
 ) -> Result<Settled, Refusal> {
     let mut distribution = Distribution::over(book);
     distribution.take_over_codes(roll);
-    distribution.set_factor(b'A', NOON, 50_000)?;
+    distribution.set_factor(b'A', NOON, DISTRIBUTION)?;
     distribution.set_factor(b'B', NOON, 25_000)?;
     let mut transmission = Transmission::over(distribution);
-    transmission.set_factor(NOON, 20_000)?;
-    settle(roll, &transmission, figures)
+    transmission.set_factor(NOON, TRANSMISSION)?;
+    settle(&QuarterHour {
+        roll,
+        book: &transmission,
+        figures,
+        quarter_hour: NOON,
+    })
 }
 
 pub fn work_out() -> Result<Settled, Refusal> {

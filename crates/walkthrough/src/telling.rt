@@ -1,0 +1,9 @@
+// What the parts tell in the same words.
+use refusal::Refusal;
+use std::io;
+
+/// A part of the walk that ends early, by what was sent back.
+pub fn stopped(rt: &HostRuntime, what: &str, refusal: &Refusal) -> io::Result<()> {
+    let number = refusal.answer().number;
+    println!(rt; "The {what} was sent back, with refusal {number}: {refusal}.")
+}
