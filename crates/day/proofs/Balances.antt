@@ -1,16 +1,14 @@
 -- Every quarter hour with answers is in balance, whatever stands. Assumes nothing.
-use Rattle.std.proofs.Common.{◌≡◌, ℕ, Bool, true, false, cond, map, get_or, ℤ, pos, ◌<ℤ◌, is_some, Some, None, Option, refl, ◌∙◌, subst, arith}
+use Rattle.std.proofs.Common.{◌≡◌, ℕ, Bool, true, false, cond, map, get_or, ℤ, pos, ◌<ℤ◌, Some, None, refl, ◌∙◌, subst, arith}
 use lib.Signed.{lt_z}
 use borrow.Author.Differences.{ints}
 use Rattle.std.specs.List.{range_with_len}
-use Rattle.refusal.specs.declared.Refusal.{Refusal}
-use Rattle.refusal.specs.declared.Refusal.TheVariants.{EmptyRoll, NoTotal}
+use Rattle.refusal.specs.declared.Refusal.TheVariants.{NoTotal}
 use Rattle.roll.specs.Ranges.{ranged}
 use Rattle.split.specs.Parts.{sum_of}
-use Rattle.balance.specs.Balance.{ufe, weighted, stranded, adjusted, rtamltot, unshared, shares}
+use Rattle.balance.specs.Balance.{adjusted, rtamltot, unshared, shares}
 use Rattle.balance.specs.Laws.{Balanced}
-use Rattle.balance.specs.Quarter.{Quarter, somebody, segment_fault, site_fault, sheet_of, refusal_of_quarter, refusal_of_shares}
-use Rattle.balance.specs.Totals.{or_else, first_of}
+use Rattle.balance.specs.Quarter.{Quarter, sheet_of, refusal_of_quarter, refusal_of_shares}
 use Rattle.balance.proofs.Answering.{unlisted_load, carried_in}
 use Rattle.balance.proofs.Balanced.{balanced}
 use Rattle.balance.proofs.Totals.{sum_of_counting, none_first, none_later}

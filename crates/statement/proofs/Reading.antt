@@ -1,17 +1,17 @@
 -- What is read off a balance is what the quarter hour says. Assumes nothing.
-use Rattle.std.proofs.Common.{◌≡◌, ℕ, ◌<◌, ◌≤◌, cond, List, [], ◌∷◌, ◌++◌, get_or, ℤ, pos, nat_abs, is_some, Some, None, Option, sym, ap, ◌∙◌, subst, arith}
+use Rattle.std.proofs.Common.{◌≡◌, ℕ, ◌<◌, ◌≤◌, cond, List, [], ◌∷◌, ◌++◌, get_or, ℤ, pos, nat_abs, Some, None, Option, sym, ap, ◌∙◌, subst, arith}
 use lib.Signed.{lt_z}
 use Rattle.refusal.specs.declared.Refusal.{Refusal}
-use Rattle.refusal.specs.declared.Refusal.TheVariants.{EmptyRoll, NoTotal}
+use Rattle.refusal.specs.declared.Refusal.TheVariants.{NoTotal}
 use Rattle.roll.specs.declared.row.Row.{Row}
 use Rattle.split.specs.Parts.{parts_of}
 use Rattle.book.specs.Grossing.{Gross, load, fault, Bounded}
 use Rattle.balance.specs.declared.settled.Balance.{Balance}
-use Rattle.balance.specs.Balance.{Sheet, ufe, weighted, rtaml, rtamltot, shares, unshared, stranded}
+use Rattle.balance.specs.Balance.{Sheet, ufe, weighted, rtaml, rtamltot, shares, unshared}
 use Rattle.balance.specs.Laws.{Balanced}
-use Rattle.balance.specs.Quarter.{Quarter, sheet_of, load_in, somebody, segment_fault, site_fault, refusal_of_quarter, refusal_of_shares}
+use Rattle.balance.specs.Quarter.{Quarter, sheet_of, load_in, refusal_of_quarter, refusal_of_shares}
 use Rattle.balance.specs.Settling.{Holds}
-use Rattle.balance.specs.Totals.{or_else, first_of}
+use Rattle.balance.specs.Totals.{or_else}
 use Rattle.balance.proofs.Answering.{carried_in}
 use Rattle.balance.proofs.Balanced.{ufe_most, rtaml_within}
 use Rattle.statement.specs.Statement.{lists_pair, pair_line, point_lines, pair_lines, share_lines, or_refusal, text_of, statement_of}

@@ -10,7 +10,7 @@ ghost use Rattle.statement.specs.Writing.{Appends};
 use crate::account::Account;
 use crate::page::Page;
 use balance::QuarterHour;
-use book::{LoadBook, check_quarter_hour};
+use book::LoadBook;
 use refusal::Refusal;
 
 /// How many bytes a list for a statement has: the longest text fits.
@@ -41,7 +41,9 @@ pub fn write_statement<B: LoadBook>(
     ensures fits { is_ok result ≡ true → length (statement_of (quarter B.LoadBook quarter_hour.now)) ≤ 2048 }
     ensures law { LeavesNothingOut (quarter B.LoadBook quarter_hour.now) }
 {
-    check_quarter_hour(quarter_hour.quarter_hour)?;
+    if quarter_hour.quarter_hour > 99 {
+        return Err(Refusal::QuarterHour);
+    }
     if text.len() != ROOM {
         return Err(Refusal::ListLength);
     }
