@@ -71,7 +71,9 @@ pub fn tell_run<B: LoadBook + Drop>(
     answers: &mut [Answer],
 ) -> Result<(), Stop> {
     let run = run_day(draft, book, calls, answers).map_err(|unopened| unopened.refusal)?;
-    words::tell_all(rt, calls, answers)?;
+    for (call, answer) in calls.iter().zip(answers.iter()) {
+        println!(rt; "- {call}: {answer}.")?;
+    }
     if run.lawful {
         println!(rt; "The day's state took every call.")?;
     } else {
