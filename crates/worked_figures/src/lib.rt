@@ -9,12 +9,10 @@ ghost use Rattle.worked_figures.specs.Texts.{computed_texts, expected_texts, com
 /// The whole table of worked figures stands: what the definitions compute is what is expected.
 pub fn figures_stand()
     ensures { computed ≡ expected }
-{
-}
+{}
 
 /// The worked statements stand, byte by byte.
 pub fn texts_stand()
     ensures texts { computed_texts ≡ expected_texts }
     ensures lengths { computed_lengths ≡ expected_lengths }
-{
-}
+{}
