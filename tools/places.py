@@ -87,7 +87,7 @@ def main():
             add("1 a flag, or a number for a kind, among the fields of a struct or a case", at(m.start()) + " " + (m.group(1) or m.group(2)))
         for m in re.finditer(r"-> Option<\(\w+, bool\)>", text):
             add("1 a value and a flag as a pair", at(m.start()))
-        for m, head, body, line in blocks(text, r"^ *(pub )?enum \w+"):
+        for m, head, body, line in blocks(text, r"^ *(pub(\([a-z]+\))? )?enum \w+"):
             names = frozenset(re.findall(r"^    (\w+)(?: \{|\(|,)", body, re.M))
             enums[name + ":" + str(line) + " " + m.group(0).split()[-1]] = names
         for m, head, body, line in functions(text):
@@ -98,6 +98,9 @@ def main():
             for f in re.finditer(r"for \(?(\w+)(?:, \w+)?\)? in (0\.\.[^{]*)\{", body):
                 if re.search(r"\[" + f.group(1) + r"( as usize)?\]", body):
                     add("3 a loop that indexes by its counter", f"{name}:{line} {fn}: {f.group(2).strip()}")
+            for f in re.finditer(r"for \((\w+), \w+\) in [^{]*enumerate\(\) \{((?:[^{}]|\{[^{}]*\})*)\}", body):
+                if re.search(r"\[" + f.group(1) + r"( as usize)?\]", f.group(2)):
+                    add("3 a walk that indexes another list by its counter", f"{name}:{line} {fn}")
             if re.search(r"\bwhile\b|\bloop \{", body):
                 add("3 a while or a loop", f"{name}:{line} {fn}")
             if re.match(r"(from|to)_\w+$", fn) and not re.search(r"#\[test\]", text[max(0, m.start() - 12):m.start()]):
@@ -116,7 +119,7 @@ def main():
                         groups[tuple(names[i:i + n])].append(f"{name}:{line} {fn}")
             for kind, fact in set(clauses(head)):
                 facts[kind + " " + re.sub(r"\s+", " ", fact.strip())].append(f"{name}:{line} {fn}")
-        for m, head, body, line in blocks(text, r"^ *(pub )?struct \w+"):
+        for m, head, body, line in blocks(text, r"^ *(pub(\([a-z]+\))? )?struct \w+"):
             fields = re.findall(r"^    (?:pub(?:\([a-z]+\))? )?(\w+): (.*),$", body, re.M)
             lists = [(f, t) for f, t in fields if t.startswith("[") or re.match(r"&('\w+ )?mut \[", t)]
             sizes = [f for f, t in fields if t == "usize"]

@@ -49,6 +49,8 @@ impl<B: LoadBook> QuarterHour<'_, B> {
         settle(&rows, generation)
     }
 
+    // The questions are asked alike, and each has its refusals, its answer and the law in clauses of its
+    // own: a caller knows no more than the clauses of the call that it makes.
     /// The adjusted load of each segment into a list of 64, 0 off the roll.
     pub fn adjusted_loads(&self, list: &mut [i64]) -> Result<(), Refusal>
         ensures answer { result ≡ ok_unless (or_else (late_at self.now.quarter_hour) (or_else (misfit 64 (length list.old)) (refusal_of_quarter (quarter B.LoadBook self.now)))) tt }

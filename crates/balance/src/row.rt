@@ -9,6 +9,7 @@ pub mod sums;
 pub mod weighing;
 
 /// A place of the roll, and the load of its segment: 0 where there is none.
+// The split goes over plain rows with their loads, free places among them.
 #[derive(Clone, Copy)]
 pub struct LoadedRow {
     row: Option<Row>,

@@ -41,6 +41,9 @@ pub fn check_entry(segment: u8, quarter_hour: u8, reading: u32) -> Result<(), Re
     Ok(())
 }
 
+/// Readings by cell: a segment, 0 to 63, and a quarter hour, 0 to 99.
+// A cell is two numbers and no type: loops go over one of them, what stands is a function of both, and
+// a pair would be made for each call and taken apart in each clause.
 pub trait LoadBook {
     /// The reading of each cell, or none.
     ghost standing: { Self → Standing };

@@ -1,7 +1,7 @@
 // Numbers as their fields hold them. One that is too large for its field stays at the field's largest
 // value, which is beyond every limit of the rules, so that it is judged by the rule it breaks.
-// Three functions of a line each: one generic function would need a trait for the largest value, and
-// an impl of it for each type.
+// Three functions of a line each: one generic function would need a crate for the largest value of a
+// type, and a clause for each type all the same.
 ghost use Rattle.std.specs.Prelude.{◌≡◌, ◌-◌, ◌^◌, min, pos};
 
 pub fn to_u8(n: u64) -> u8

@@ -113,6 +113,7 @@ fn wholes<const N: usize>(fields: &[Field]) -> Option<[u64; N]> {
     }
     let mut numbers = [0; N];
     for (i, field) in fields.iter().enumerate() {
+        // by index, since what a walk by `iter_mut` beside another writes is not known to a proof
         numbers[i] = field.whole()?;
     }
     Some(numbers)

@@ -43,6 +43,7 @@ impl From<Refusal> for Rejection {
 }
 
 /// What was done, or what stands.
+// Some of the cases are those of a day's answer, without its refusal and with the words of the desk.
 #[derive(Clone, Copy)]
 pub enum Reply {
     // on a draft

@@ -98,6 +98,7 @@ fn copy_parts(parts: &[i64], readings: &mut [u32])
     ensures { readings.new ≡ map unsigned_abs parts.now }
 {
     for (i, part) in parts.iter().enumerate() {
+        // by index, since what a walk by `iter_mut` beside another writes is not known to a proof
         readings[i] = *part as u32;
     }
 }

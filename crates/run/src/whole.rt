@@ -56,6 +56,7 @@ pub fn run_day<B: LoadBook + Drop>(
         let (next, answer) = day.step(call);
         day = next;
         lawful &= is_taken(&answer);
+        // by index, since what a walk by `iter_mut` beside another writes is not known to a proof
         answers[i] = answer;
     }
     Ok(Run { day, lawful })

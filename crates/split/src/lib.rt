@@ -68,6 +68,7 @@ fn fill_parts<T: Weighted>(amount: i32, before: u32, whole: u32, items: &[T], pa
     let (_, mut carried) = divide(owed(amount, i64::from(before), 0), whole);
     for (i, item) in items.iter().enumerate() {
         let (part, left) = divide(owed(amount, item.weight(), carried), whole);
+        // by index, since what a walk by `iter_mut` beside another writes is not known to a proof
         parts[i] = part;
         carried = left;
     }

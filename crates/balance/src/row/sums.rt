@@ -36,6 +36,7 @@ pub(crate) fn add_parts(rows: &[LoadedRow; 64], parts: &[i64; 64]) -> [i64; 64]
 {
     let mut adjusted = [0i64; 64];
     for (s, row) in rows.iter().enumerate() {
+        // by index, since what a walk by `iter_mut` beside another writes is not known to a proof
         adjusted[s] = i64::from(row.load) + parts[s];
     }
     adjusted
@@ -63,6 +64,7 @@ pub(crate) fn pair_up(rows: &[LoadedRow; 64], amounts: &[i64; 64]) -> [[i64; 8];
 {
     let mut pairs = [[0i64; 8]; 16];
     for (s, row) in rows.iter().enumerate() {
+        // by the segment's number in both, which is what a pair's sum counts by
         add_to_pair(&mut pairs, row, amounts[s]);
     }
     pairs

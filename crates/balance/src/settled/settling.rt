@@ -32,6 +32,7 @@ fn add_points(pairs: &[[i64; 8]; 16]) -> [i32; 16]
 {
     let mut sums = [0i32; 16];
     for (q, points) in pairs.iter().enumerate() {
+        // by index, since what a walk by `iter_mut` beside another writes is not known to a proof
         sums[q] = sum_points(points) as i32;
     }
     sums

@@ -26,6 +26,7 @@ impl<B: LoadBook + Drop, S: Drop> Day<B, S> {
         })
     }
 
+    // Here too each question has the law in a clause of its own.
     /// The adjusted load of each segment into a list of 64, 0 off the roll.
     pub fn adjusted_loads(&self, quarter_hour: u8, list: &mut [i64]) -> Result<(), Refusal>
         ensures answer { result ≡ loads_answer (day_setting B.LoadBook self.now) (day_slate B.LoadBook self.now) quarter_hour (length_of list.old) }

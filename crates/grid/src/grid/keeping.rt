@@ -34,6 +34,7 @@ impl Grid<'_> {
         if self.is_whole() { CELLS } else { 0 }
     }
 
+    // That a cell is in range is required three times here: two numbers make one, as in the interface.
     /// What stands in a cell.
     pub(super) fn held(&self, segment: u8, quarter_hour: u8) -> Option<u32>
         requires { (segment < 64) × (quarter_hour < 100) }

@@ -59,6 +59,8 @@ fn codes_of(roll: &Roll) -> [Option<LossCode>; 64]
 {
     let mut codes = [None; 64];
     for (segment, row) in roll.rows().iter().enumerate() {
+        // by index, since what a walk by `iter_mut` beside another writes is not known to a proof;
+        // of `map` on an array a proof knows that its closure was run, and not in which state
         codes[segment] = code_in(*row);
     }
     codes

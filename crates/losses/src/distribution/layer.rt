@@ -12,6 +12,7 @@ use refusal::Refusal;
 use roll::Roll;
 
 impl<B: LoadBook + Drop> Distribution<B> {
+    // What an empty table makes of the book is said in the words of this kind of layer.
     /// The layer over a book, with no factor given and no code taken over.
     pub fn over(below: B) -> Distribution<B>
         ensures below { result.below ≡ below }

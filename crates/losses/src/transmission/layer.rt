@@ -9,6 +9,7 @@ use book::LoadBook;
 use refusal::Refusal;
 
 impl<B: LoadBook + Drop> Transmission<B> {
+    // What an empty table makes of the book is said in the words of this kind of layer.
     /// The layer over a book, with no factor given.
     pub fn over(below: B) -> Transmission<B>
         ensures below { result.below ≡ below }

@@ -103,6 +103,7 @@ fn figures() -> Result<Figures, Refusal> {
     Ok(figures)
 }
 
+// Loads are asked of the book, and RTAML of the quarter hour: each list has names of its own.
 fn ask_loads<B: LoadBook>(book: &B) -> Result<Loads, Refusal> {
     Ok(Loads {
         household: book.load(0, NOON)?,
