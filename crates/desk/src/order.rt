@@ -78,6 +78,7 @@ impl Request {
         }
     }
 
+    // Two constructors of one line, for the two kinds of call.
     fn entry(entry: Entry<'static>) -> Request {
         Request::new(Order::Call(Call::Entry(entry)))
     }
@@ -112,9 +113,8 @@ fn wholes<const N: usize>(fields: &[Field]) -> Option<[u64; N]> {
         return None;
     }
     let mut numbers = [0; N];
-    for (i, field) in fields.iter().enumerate() {
-        // by index, since what a walk by `iter_mut` beside another writes is not known to a proof
-        numbers[i] = field.whole()?;
+    for (number, field) in numbers.iter_mut().zip(fields) {
+        *number = field.whole()?;
     }
     Some(numbers)
 }
@@ -302,6 +302,7 @@ fn figure(fields: &[Field]) -> Option<Request> {
     )
 }
 
+// It reads as a withdrawal does, and makes another entry of another subject.
 fn strike(fields: &[Field]) -> Option<Request> {
     let [site, quarter_hour] = wholes::<2>(fields)?;
     let strike = Entry::Strike {

@@ -1,6 +1,7 @@
 // What a call answered, as numbers.
 use refusal::Refusal;
 
+// Refusals stand in the tables by their numbers, as the rules and the output of the programs have them.
 /// The number, subject and height of a refusal.
 pub fn numbers(refusal: &Refusal) -> [u8; 3] {
     let answer = refusal.answer();

@@ -41,6 +41,7 @@ fn draft() -> Result<Draft, Refusal> {
     Ok(draft)
 }
 
+// The walk has figures of this kind too, and is read by itself.
 fn figures() -> Result<Figures, Refusal> {
     let mut figures = Figures::none();
     figures.enter(0, 48, 11_000)?;

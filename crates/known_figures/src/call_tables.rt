@@ -1,14 +1,13 @@
 // Tables of calls of a load book, each with its whole answer: what was read, or the number, the subject
 // and the height of the refusal. They are run on a grid, on slip books, and under a pile of layers.
 use crate::answers::numbers;
-use crate::piles::check_five_layers;
 use crate::slip_books::OLD;
 use book::LoadBook;
 use grid::Grid;
+use losses::{Distribution, Transmission};
 use refusal::Refusal;
 use slips::SlipBook;
 use std::process::Abort;
-use std::test::Fail;
 
 #[derive(Clone, Copy)]
 enum Call {
@@ -164,7 +163,16 @@ fn on_no_place(rt: HostRuntime) {
     run(&rt, &mut SlipBook::new(&mut [OLD; 0]), &NO_PLACE);
 }
 
+fn check_two_more<B: LoadBook + Drop>(rt: &impl Abort, pile: B) {
+    check_one_place(rt, &mut Transmission::over(Distribution::over(pile)), 5);
+}
+
+fn check_four_more<B: LoadBook + Drop>(rt: &impl Abort, pile: B) {
+    check_two_more(rt, Transmission::over(Distribution::over(pile)));
+}
+
+/// Nothing was posted or cleared before the layers were laid over the list that was lent.
 #[test]
-fn under_five_layers(rt: HostRuntime) -> Result<(), Fail> {
-    check_five_layers(&rt, SlipBook::new(&mut [OLD]))
+fn under_five_layers(rt: HostRuntime) {
+    check_four_more(&rt, Distribution::over(SlipBook::new(&mut [OLD])));
 }

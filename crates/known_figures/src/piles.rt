@@ -179,7 +179,7 @@ fn check_four_more<B: LoadBook + Drop>(rt: &impl Abort, pile: B) -> Result<(), F
 }
 
 /// The reading was posted before the first of five layers was laid over the book.
-pub fn check_five_layers<B: LoadBook + Drop>(rt: &impl Abort, mut book: B) -> Result<(), Fail> {
+fn check_five_layers<B: LoadBook + Drop>(rt: &impl Abort, mut book: B) -> Result<(), Fail> {
     book.post(5, 0, 7)?;
     check_four_more(rt, Distribution::over(book))
 }

@@ -12,6 +12,7 @@ pub const OLD: Slip = Slip {
     reading: 7,
 };
 
+// The same as on one place among the tables of calls: it stays by its name.
 #[test]
 fn one_place(rt: HostRuntime) {
     check_one_place(&rt, &mut SlipBook::new(&mut [OLD]), 0);

@@ -56,6 +56,7 @@ fn factor(rt: &HostRuntime, factor: u32, answer: Result<(), Refusal>) -> io::Res
     match answer {
         Ok(()) => println!(rt; "- give a factor of {factor}: taken."),
         Err(refusal) => {
+            // the number first, and then the words
             let number = refusal.answer().number;
             println!(rt; "- give a factor of {factor}: sent back with refusal {number}, {refusal}.")
         }

@@ -96,6 +96,7 @@ pub fn end(rt: &HostRuntime, told: Result<(), Stop>) -> io::Result<()> {
     match told {
         Ok(()) => Ok(()),
         Err(Stop::Refused(refusal)) => {
+            // the number first, and then the words
             let number = refusal.answer().number;
             println!(rt; "Sent back with refusal {number}, {refusal}.")
         }

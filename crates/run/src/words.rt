@@ -145,6 +145,7 @@ fn write_numbers<W: fmt::Write>(
     Ok(())
 }
 
+// The number comes before the words, so both are asked of the refusal.
 fn write_refusal<W: fmt::Write>(f: &mut fmt::Formatter<W>, refusal: &Refusal) -> fmt::Result {
     let number = refusal.answer().number;
     write!(f, "sent back with refusal {number}, {refusal}")

@@ -6,6 +6,7 @@ use crate::telling::stopped;
 use std::io;
 use work::work_out;
 
+// Each part ends so, over what it worked out itself.
 pub fn show(rt: &HostRuntime) -> io::Result<()> {
     match work_out() {
         Ok(climbs) => telling::pile(rt, &climbs),

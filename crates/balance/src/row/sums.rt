@@ -63,9 +63,8 @@ pub(crate) fn pair_up(rows: &[LoadedRow; 64], amounts: &[i64; 64]) -> [[i64; 8];
     ensures value { (d : LoadedRow) (qse point : ℕ) → cell (pos 0) result qse point ≡ pair_sum rows.now amounts.now d 64 qse point }
 {
     let mut pairs = [[0i64; 8]; 16];
-    for (s, row) in rows.iter().enumerate() {
-        // by the segment's number in both, which is what a pair's sum counts by
-        add_to_pair(&mut pairs, row, amounts[s]);
+    for (row, amount) in rows.iter().zip(amounts) {
+        add_to_pair(&mut pairs, row, *amount);
     }
     pairs
 }

@@ -30,6 +30,7 @@ impl TransmissionTable {
     }
 }
 
+// As for the other table, but for the loss that is looked up.
 impl Adjustment for TransmissionTable {
     ghost adjusted = { λ t. transmitted_cell (at t.factors.rows) };
 

@@ -156,6 +156,7 @@ impl LoadBook for SlipBook<'_> {
         self.used = 0;
     }
 
+    // `read` and `load` read like a grid's: two lines each over what either book holds.
     fn read(&self, segment: u8, quarter_hour: u8) -> Result<Option<u32>, Refusal> {
         check_cell(segment, quarter_hour)?;
         Ok(self.reading_of(segment, quarter_hour))

@@ -83,6 +83,7 @@ pub fn refused(
     unchanged: bool,
 ) -> io::Result<()> {
     let energy = Grouped::from(entry.energy);
+    // the number first, and then the words
     let number = refusal.answer().number;
     let list = if unchanged {
         "stayed as it was"

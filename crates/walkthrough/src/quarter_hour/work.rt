@@ -7,7 +7,7 @@ use losses::{Distribution, Transmission};
 use refusal::Refusal;
 use roll::{Draft, Roll, Row};
 
-// The rows and the losses stand in the programs of the four segments and of the lively day too: each is
+// The rows, the figures and the losses stand in the programs of the four segments and of the lively day too: each is
 // read by itself.
 const WORKSHOP: Row = Row {
     qse: 2,
