@@ -1,4 +1,5 @@
 // The lines of the standard input.
+ghost use Rattle.std.specs.Prelude.{◌≡◌};
 ghost use Rattle.std.specs.Iterator.{at_most};
 
 use crate::line::Line;
@@ -24,7 +25,9 @@ struct Bytes {
 
 impl Bytes {
     /// The next byte, or none at the end of the input.
-    fn byte(&mut self) -> io::Result<Option<u8>> {
+    fn byte(&mut self) -> io::Result<Option<u8>>
+        ensures { self.new.left ≡ self.old.left }
+    {
         if self.at >= self.end {
             self.end = self.stdin.read(&mut self.block)?;
             self.at = 0;
