@@ -31,8 +31,10 @@ fn live_under_losses<B: LoadBook + Drop>(
     book: B,
 ) -> Result<(), Stop> {
     let draft = told_day::draft(quarter_hours)?;
-    let pile = under_losses(book, &draft, quarter_hours.saturating_sub(1))?;
-    told_day::live(rt, draft, pile)
+    match under_losses(book, &draft, quarter_hours.saturating_sub(1)) {
+        Ok(pile) => told_day::live(rt, draft, pile),
+        Err(refusal) => Err(Stop::Refused(refusal)),
+    }
 }
 
 fn live_alone<B: LoadBook + Drop>(

@@ -40,9 +40,11 @@ fn calls<'a>() -> [Call<'a>; 13] {
 fn settle<B: LoadBook + Drop>(rt: &HostRuntime, book: B) -> Result<(), Stop> {
     let mut draft = told_day::draft(96)?;
     draft.segment(3, &TOWN)?;
-    let pile = under_losses(book, &draft, 0)?;
     let mut answers = [Answer::Unlawful; 13];
-    told_day::tell_run(rt, draft, pile, &calls(), &mut answers)
+    match under_losses(book, &draft, 0) {
+        Ok(pile) => told_day::tell_run(rt, draft, pile, &calls(), &mut answers),
+        Err(refusal) => Err(Stop::Refused(refusal)),
+    }
 }
 
 pub fn show(rt: &HostRuntime) -> io::Result<()> {

@@ -41,8 +41,10 @@ fn largest_readings<'a>() -> [Call<'a>; 5] {
 
 fn readings_on<B: LoadBook + Drop>(rt: &HostRuntime, book: B) -> Result<(), Stop> {
     let draft = told_day::draft(96)?;
-    let pile = under_losses(book, &draft, 0)?;
-    five_calls(rt, draft, pile, &largest_readings())
+    match under_losses(book, &draft, 0) {
+        Ok(pile) => five_calls(rt, draft, pile, &largest_readings()),
+        Err(refusal) => Err(Stop::Refused(refusal)),
+    }
 }
 
 fn readings(rt: &HostRuntime) -> io::Result<()> {

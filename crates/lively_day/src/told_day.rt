@@ -70,11 +70,16 @@ pub fn tell_run<B: LoadBook + Drop>(
     calls: &[Call],
     answers: &mut [Answer],
 ) -> Result<(), Stop> {
-    let run = run_day(draft, book, calls, answers).map_err(|unopened| unopened.refusal)?;
+    // By matches where a day or a pile is handed on, here and beside: a combinator moves it once more,
+    // and the back end takes minutes over moves of values as large.
+    let lawful = match run_day(draft, book, calls, answers) {
+        Ok(run) => run.lawful,
+        Err(unopened) => return Err(Stop::Refused(unopened.refusal)),
+    };
     for (call, answer) in calls.iter().zip(answers.iter()) {
         println!(rt; "- {call}: {answer}.")?;
     }
-    if run.lawful {
+    if lawful {
         println!(rt; "The day's state took every call.")?;
     } else {
         println!(rt; "The day's state did not take every call.")?;
