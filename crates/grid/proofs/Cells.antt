@@ -1,19 +1,19 @@
 -- What stands after a mark is set or cleared, and how many readings that makes. Assumes nothing.
-use Rattle.std.proofs.Common.{◌≡◌, ℕ, ◌+◌, ◌-◌, ◌*◌, ◌<◌, ◌≤◌, Bool, true, false, cond, not, eqb, List, [], ◌∷◌, map, length, get_or, set, replicate, is_some, Some, None, sum_by, Option, sym, refl, ap, ◌∙◌, arith, get_or-set_other}
+use Rattle.std.proofs.Common.{◌≡◌, ℕ, ◌+◌, ◌-◌, ◌*◌, ◌^◌, ◌<◌, ◌≤◌, Bool, true, false, cond, not, eqb, List, [], ◌∷◌, map, length, get_or, set, replicate, is_some, Some, None, sum_by, Option, sym, refl, ap, ◌∙◌, subst, ⊎_elim, arith, get_or-set_other, get_or-set_same}
 use mathlib.Core.Path.{fun_ext}
 use Rattle.std.specs.List.{range_with_len}
 use Rattle.std.proofs.lemmas.Grind.{get_or-set_at}
-use Rattle.std.proofs.lemmas.List.{get_or_default, get_or-replicate}
+use Rattle.std.proofs.lemmas.List.{get_or_default, get_or_past, get_or-replicate, length-replicate}
 use Rattle.std.proofs.lemmas.List.Sums.{sum_by-cons, count_by-le-length}
 use Rattle.std.proofs.lemmas.List.FromFn.{fill_by_all}
 use Rattle.std.proofs.lemmas.Nat.Bits.{bit_at-zero}
-use Rattle.std.proofs.lemmas.Bool.{cond-true, cond-false}
+use Rattle.std.proofs.lemmas.Bool.{cond-true, cond-false, cases_eq, cases_lt}
 use Rattle.std.proofs.lemmas.Bool.Decides.{nat_tests}
 use Rattle.book.specs.Answers.{full}
 use Rattle.book.specs.Cells.{Standing, nothing, same_cell, put, count_of, count}
 use Rattle.book.proofs.Counts.{sum_same, one, count_put, count_most}
 use Rattle.grid.specs.declared.marks.Marks.{Marks}
-use Rattle.grid.specs.Marks.{mark, mark_count, marks_at, unmarked, Turned}
+use Rattle.grid.specs.Marks.{mark, mark_count, bit_count, marks_at, unmarked, Turned}
 use Rattle.grid.specs.Held.{marked, standing_in, places_in}
 
 -- ---- any book: how a cell counts
@@ -40,6 +40,13 @@ small_none n e = absurd cc
 pub blank_marked : (m : Marks) → m.early ≡ 0 → m.late ≡ 0 → (s q : ℕ) → marked (replicate 64 m) s q ≡ false
 unfolding marked mark
 blank_marked m e l s q = grind (arith, nat_tests, get_or-replicate 64 s m unmarked, bit_at-zero q, bit_at-zero (q - 64))
+
+pub blank_day_end : (m : Marks) → m.late ≡ 0 → (s : ℕ) → (marks_at (replicate 64 m) s).late < 2 ^ 36
+blank_day_end m l s =
+    ⊎_elim
+    (λ (inside : s < 64). rw (get_or-replicate 64 s m unmarked inside) (omega (arith, l)))
+    (λ (past : 64 ≤ s). rw (get_or_past (replicate 64 m) s unmarked (simp length-replicate (omega arith))) (omega arith))
+    (cases_lt s 64)
 
 pub blank_standing : (cells : List ℕ) (marks : List Marks) → ((s q : ℕ) → marked marks s q ≡ false) → standing_in cells marks ≡ nothing
 unfolding standing_in
@@ -70,6 +77,15 @@ module _ (marks : List Marks) (s q : ℕ) (d after : Marks) (v : Bool) (hs : s <
 
     pub standing_after : standing_in numbers (set marks s after) ≡ put (standing_in cells marks) s q (cond v (Some (get_or numbers (100 * s + q) 0)) None)
     standing_after = fun_ext (λ t. fun_ext (λ p. cell_after t p))
+
+-- no bit past the last quarter hour comes with it, where the changed marks bring none
+pub day_after : (marks : List Marks) (s : ℕ) (d after : Marks) → length marks ≡ 64 → s < 64 → ((t : ℕ) → (marks_at marks t).late < 2 ^ 36) → ((get_or marks s d).late < 2 ^ 36 → after.late < 2 ^ 36) → (t : ℕ) → (marks_at (set marks s after) t).late < 2 ^ 36
+day_after marks s d after whole hs fits width t =
+    let old : (get_or marks s d).late < 2 ^ 36 = subst (λ (m : Marks). m.late < 2 ^ 36) (get_or_default marks s unmarked d (omega arith)) (fits s) in
+    ⊎_elim
+    (λ (e : t ≡ s). rw e (rw (get_or-set_same marks s after unmarked (omega arith)) (width old)))
+    (λ (ne : t ≡ s → ⊥). rw (get_or-set_other marks s t after unmarked ne) (fits t))
+    (cases_eq t s)
 
 -- ---- marks and the length of the list
 
@@ -106,6 +122,10 @@ pub mark_count_most : (m : Marks) → mark_count m ≤ 100
 unfolding mark_count
 mark_count_most m = count_by-le-length (mark m) (range_with_len 0 100)
 
+pub bit_count_most : (m : Marks) → bit_count m ≤ 128
+unfolding bit_count
+bit_count_most m = count_by-le-length (mark m) (range_with_len 0 128)
+
 -- a segment has as many readings as marks
 row_counted : (cells : List ℕ) (marks : List Marks) (s : ℕ) → length marks ≡ 64 → s < 64 → count_of (standing_in cells marks) s ≡ mark_count (marks_at marks s)
 unfolding count_of mark_count standing_in
@@ -117,11 +137,11 @@ sum_over : {X : Type 0} (g : X → ℕ) (f : ℕ → X) (xs : List ℕ) → sum_
 sum_over g f [] = refl
 sum_over g f (x ∷ xs) = let rest = sum_over g f xs in omega (arith, sum_by-cons (λ s. g (f s)) x xs, sum_by-cons g (f x) (map f xs))
 
--- and so have all segments together
-pub all_counted : (cells : List ℕ) (marks : List Marks) → length marks ≡ 64 → count (standing_in cells marks) ≡ sum_by mark_count marks
+-- and so have all segments together, by any count that is right for each
+pub all_counted : (by : Marks → ℕ) (cells : List ℕ) (marks : List Marks) → length marks ≡ 64 → ((s : ℕ) → mark_count (marks_at marks s) ≡ by (marks_at marks s)) → count (standing_in cells marks) ≡ sum_by by marks
 unfolding count
-all_counted cells marks whole =
+all_counted by cells marks whole right =
     let rows = range_with_len 0 64 in
     let each : map (marks_at marks) rows ≡ marks = sym (fill_by_all (marks_at marks) marks 64 unmarked whole (λ k h. refl)) in
-    sum_same (count_of (standing_in cells marks)) (λ s. mark_count (marks_at marks s)) 0 64 (λ s low high. row_counted cells marks s whole high)
-    ∙ sum_over mark_count (marks_at marks) rows ∙ ap (sum_by mark_count) each
+    sum_same (count_of (standing_in cells marks)) (λ s. by (marks_at marks s)) 0 64 (λ s low high. row_counted cells marks s whole high ∙ right s)
+    ∙ sum_over by (marks_at marks) rows ∙ ap (sum_by by) each

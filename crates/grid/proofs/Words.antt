@@ -11,7 +11,7 @@ use Rattle.std.proofs.lemmas.Bool.{cases_lt}
 use Rattle.std.proofs.lemmas.Bool.Decides.{nat_tests}
 use Rattle.book.proofs.Counts.{sum_same}
 use Rattle.grid.specs.declared.marks.Marks.{Marks}
-use Rattle.grid.specs.Marks.{mark, mark_count, Turned}
+use Rattle.grid.specs.Marks.{mark, mark_count, bit_count, Turned}
 
 -- ---- one bit of a word
 
@@ -67,11 +67,26 @@ late_bit : (m : Marks) (j : ℕ) → bit_at m.late j ≡ cond (mark m (64 + j)) 
 unfolding mark
 late_bit m j = let back : 64 + j - 64 ≡ j = omega arith in rw back (grind (arith, nat_tests, bit_at-lt m.late j))
 
--- as many marks are set as quarter hours are marked
-pub marks_counted : (m : Marks) → m.early < 2 ^ 64 → ones m.early + ones m.late ≡ mark_count m
-unfolding mark_count
-marks_counted m e =
+-- as many bits are set as both words have
+pub bits_counted : (m : Marks) → m.early < 2 ^ 64 → m.late < 2 ^ 64 → ones m.early + ones m.late ≡ bit_count m
+unfolding bit_count
+bits_counted m e l =
     let one : ℕ → ℕ = λ q. cond (mark m q) 1 0 in
     let first = ones_sum 64 m.early e ∙ sum_same (bit_at m.early) one 0 64 (λ q low high. early_bit m q high) in
-    let second = ones_sum 36 m.late m.day_end ∙ sum_same (bit_at m.late) (λ j. one (64 + j)) 0 36 (λ j low high. late_bit m j) in
-    ap₂ ◌+◌ first (second ∙ sym (sum_shift one 64 36)) ∙ sym (sum_by-append one (range_with_len 0 64) (range_with_len 64 36))
+    let second = ones_sum 64 m.late l ∙ sum_same (bit_at m.late) (λ j. one (64 + j)) 0 64 (λ j low high. late_bit m j) in
+    ap₂ ◌+◌ first (second ∙ sym (sum_shift one 64 64)) ∙ sym (sum_by-append one (range_with_len 0 64) (range_with_len 64 64))
+
+past_the_day : (m : Marks) (q : ℕ) → m.late < 2 ^ 36 → 100 ≤ q → cond {A = ℕ} (mark m q) 1 0 ≡ 0
+unfolding mark
+past_the_day m q fits past = grind (arith, nat_tests, bit_at_above m.late 36 (q - 64) fits (omega arith))
+
+-- where no bit stands past the last quarter hour, as many are set as quarter hours are marked
+pub day_counted : (m : Marks) → m.late < 2 ^ 36 → bit_count m ≡ mark_count m
+unfolding bit_count mark_count
+day_counted m fits =
+    let one : ℕ → ℕ = λ q. cond (mark m q) 1 0 in
+    let none = sum_same one (λ q. 0) 100 28 (λ q low high. past_the_day m q fits low) in
+    omega (arith, sum_by-append one (range_with_len 0 100) (range_with_len 100 28), none)
+
+pub marks_counted : (m : Marks) → m.early < 2 ^ 64 → m.late < 2 ^ 36 → ones m.early + ones m.late ≡ mark_count m
+marks_counted m e l = bits_counted m e (omega arith) ∙ day_counted m l

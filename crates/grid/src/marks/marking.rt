@@ -1,7 +1,7 @@
 // How a quarter hour is marked, and how the marks are counted.
 ghost use Rattle.std.specs.Prelude.{◌≡◌, ℕ, ◌^◌, ◌<◌, ◌≤◌, true, false, if◌then◌else◌, ◌==◌, nat_eq};
 ghost use Rattle.std.specs.Int.{bit_at};
-ghost use Rattle.grid.specs.Marks.{mark, mark_count, Turned};
+ghost use Rattle.grid.specs.Marks.{mark, mark_count, bit_count, marks_at, Turned};
 ghost use Rattle.grid.specs.Held.{marked};
 
 use crate::marks::Marks;
@@ -32,7 +32,8 @@ fn cleared(word: u64, k: u8) -> u64
 impl Marks {
     /// No quarter hour marked, in any segment.
     pub(crate) fn none() -> [Marks; 64]
-        ensures { (s q : ℕ) → marked result s q ≡ false }
+        ensures marks { (s q : ℕ) → marked result s q ≡ false }
+        ensures day_end { (s : ℕ) → (marks_at result s).late < 2 ^ 36 }
     {
         [Marks { early: 0, late: 0 }; 64]
     }
@@ -55,7 +56,8 @@ impl Marks {
     /// The same marks with this one set.
     pub(crate) fn with(mut self, quarter_hour: u8) -> Marks
         requires { quarter_hour < 100 }
-        ensures { Turned self quarter_hour true result }
+        ensures marks { Turned self quarter_hour true result }
+        ensures width { self.late < 2 ^ 36 → result.late < 2 ^ 36 }
     {
         if quarter_hour < 64 {
             self.early = set(self.early, quarter_hour);
@@ -68,7 +70,8 @@ impl Marks {
     /// The same marks without this one.
     pub(crate) fn without(mut self, quarter_hour: u8) -> Marks
         requires { quarter_hour < 100 }
-        ensures { Turned self quarter_hour false result }
+        ensures marks { Turned self quarter_hour false result }
+        ensures width { self.late < 2 ^ 36 → result.late < 2 ^ 36 }
     {
         if quarter_hour < 64 {
             self.early = cleared(self.early, quarter_hour);
@@ -80,8 +83,9 @@ impl Marks {
 
     /// How many quarter hours are marked.
     pub(crate) fn count(self) -> u32
-        ensures value { result ≡ mark_count self }
-        ensures bound { result ≤ 100 }
+        ensures bits { result ≡ bit_count self }
+        ensures bound { result ≤ 128 }
+        ensures value { self.late < 2 ^ 36 → result ≡ mark_count self }
     {
         self.early.count_ones() + self.late.count_ones()
     }

@@ -3,7 +3,8 @@ use Rattle.std.proofs.Common.{◌≡◌, ◌^◌, sum_by, sym, ◌∙◌, rules,
 use Rattle.std.proofs.iter.runs.Made.{chains}
 use Rattle.std.proofs.lemmas.Iterator.{YieldsList-from_slice}
 use Rattle.std.proofs.lemmas.Iterator.Adapters.{fits_from_length, at_most_from_yields_List}
-use Rattle.grid.specs.Marks.{mark_count}
+use Rattle.grid.specs.Marks.{bit_count}
+use Rattle.grid.proofs.Words.{day_counted}
 use Rattle.grid.proofs.Cells.{all_counted}
 use Rattle.grid.proofs.grid.Grid.count_marks.Goals as goal
 
@@ -14,5 +15,5 @@ sum-requires-clause-fits c =
 pub returns : goal.returns
 returns c =
     let g = c.args.self.now in
-    let summed : c.sum.result ≡ sum_by mark_count g.marks = search (rules, chains) in
-    summed ∙ sym (all_counted g.cells.now g.marks (omega arith))
+    let summed : c.sum.result ≡ sum_by bit_count g.marks = search (rules, chains) in
+    summed ∙ sym (all_counted bit_count g.cells.now g.marks (omega arith) (λ s. sym (day_counted _ (g.day_end s))))
