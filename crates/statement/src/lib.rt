@@ -6,4 +6,4 @@ mod listed;
 mod page;
 mod whole;
 
-pub use whole::write_statement;
+pub use whole::{write_statement, write_statement_of};

@@ -1,6 +1,6 @@
 // The whole text of a quarter hour.
 ghost use Rattle.std.specs.Prelude.{◌≡◌, ◌+◌, ◌≤◌, true, ◌++◌, length, drop, is_ok, if◌then◌else◌};
-ghost use Rattle.balance.specs.Gathering.{quarter};
+ghost use Rattle.balance.specs.Gathering.{quarter, quarter_in};
 ghost use Rattle.balance.specs.Questions.{ok_unless, late_at, misfit};
 ghost use Rattle.balance.specs.Totals.{or_else};
 ghost use Rattle.statement.specs.Law.{LeavesNothingOut};
@@ -9,9 +9,10 @@ ghost use Rattle.statement.specs.Writing.{Appends};
 
 use crate::account::Account;
 use crate::page::Page;
-use balance::QuarterHour;
+use balance::{Figures, QuarterHour};
 use book::LoadBook;
 use refusal::Refusal;
+use roll::Roll;
 
 /// How many bytes a list for a statement has: the longest text fits.
 const ROOM: usize = 2048;
@@ -50,4 +51,27 @@ pub fn write_statement<B: LoadBook>(
     let mut page = Page { text, at: 0 };
     put_statement(quarter_hour, &mut page);
     Ok(page.at)
+}
+
+/// The same, of a quarter hour whose roll, book and figures are handed over one by one: for code that
+/// names its book.
+pub fn write_statement_of<B: LoadBook>(
+    roll: &Roll,
+    book: &B,
+    figures: &Figures,
+    quarter_hour: u8,
+    text: &mut [u8],
+) -> Result<usize, Refusal>
+    ensures answer { result ≡ ok_unless (or_else (late_at quarter_hour) (misfit 2048 (length text.old))) (length (statement_of (quarter_in roll.now (B.LoadBook.grossing book.now) (B.LoadBook.standing book.now) figures.now quarter_hour))) }
+    ensures after { text.new ≡ (if is_ok result then statement_of (quarter_in roll.now (B.LoadBook.grossing book.now) (B.LoadBook.standing book.now) figures.now quarter_hour) ++ drop (length (statement_of (quarter_in roll.now (B.LoadBook.grossing book.now) (B.LoadBook.standing book.now) figures.now quarter_hour))) text.old else text.old) }
+    ensures fits { is_ok result ≡ true → length (statement_of (quarter_in roll.now (B.LoadBook.grossing book.now) (B.LoadBook.standing book.now) figures.now quarter_hour)) ≤ 2048 }
+    ensures law { LeavesNothingOut (quarter_in roll.now (B.LoadBook.grossing book.now) (B.LoadBook.standing book.now) figures.now quarter_hour) }
+{
+    let quarter = QuarterHour {
+        roll,
+        book,
+        figures,
+        quarter_hour,
+    };
+    write_statement(&quarter, text)
 }
