@@ -12,6 +12,8 @@ mod factors;
 #[cfg(test)]
 mod grids;
 #[cfg(test)]
+mod named_books;
+#[cfg(test)]
 mod piles;
 #[cfg(test)]
 mod profiles;
