@@ -26,10 +26,10 @@ fn say(rt: &impl Print, place: Place, answer: Result<Reply, Rejection>) -> io::R
     }
 }
 
-/// What a line asks for. One that is not understood is answered here, and a blank one is not.
+/// What a line asks for. One that is not understood is answered here.
 fn understood(rt: &impl Print, line: &Line) -> io::Result<Option<Request>> {
     let request = order::read(line);
-    if request.is_none() && !line.is_empty() {
+    if request.is_none() {
         say(rt, Place::default(), Err(Rejection::Unknown))?;
     }
     Ok(request)
@@ -101,8 +101,11 @@ impl<'a, R: Print> Desk<'a, R> {
 
     /// Before the first day.
     pub fn wait(&mut self) -> io::Result<Option<Setup>> {
-        for line in &mut self.lines {
-            let Some(request) = understood(self.rt, &line?)? else {
+        for _ in 0..u64::MAX {
+            if !self.lines.read()? {
+                return Ok(None);
+            }
+            let Some(request) = understood(self.rt, self.lines.line())? else {
                 continue;
             };
             let place = request.place(false);
@@ -121,8 +124,11 @@ impl<'a, R: Print> Desk<'a, R> {
     /// On a draft, until its day is to be opened.
     pub fn draft(&mut self, begun: Setup) -> io::Result<Option<Setup>> {
         let mut setup = begun;
-        for line in &mut self.lines {
-            let Some(request) = understood(self.rt, &line?)? else {
+        for _ in 0..u64::MAX {
+            if !self.lines.read()? {
+                return Ok(None);
+            }
+            let Some(request) = understood(self.rt, self.lines.line())? else {
                 continue;
             };
             let place = request.place(setup.has_clock());
@@ -151,9 +157,11 @@ impl<'a, R: Print> Desk<'a, R> {
         has_clock: bool,
     ) -> io::Result<Option<Setup>> {
         let mut day = AnyDay::OpenInitial(Day::open(draft, book));
-        for line in &mut self.lines {
-            let line = line?;
-            let Some(request) = understood(self.rt, &line)? else {
+        for _ in 0..u64::MAX {
+            if !self.lines.read()? {
+                return Ok(None);
+            }
+            let Some(request) = understood(self.rt, self.lines.line())? else {
                 continue;
             };
             let place = request.place(has_clock);
@@ -167,7 +175,7 @@ impl<'a, R: Print> Desk<'a, R> {
                     tell_statement(self.rt, &day, place, quarter_hour)?;
                 }
                 order => {
-                    let weights = order::weights(&line);
+                    let weights = order::weights(self.lines.line());
                     let (next, answer) = respond(day, &order, &weights);
                     day = next;
                     say(self.rt, place, answer)?;

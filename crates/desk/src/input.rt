@@ -1,14 +1,10 @@
 // The lines of the standard input.
-ghost use Rattle.std.specs.Prelude.{◌≡◌};
-ghost use Rattle.std.specs.Iterator.{at_most};
-
 use crate::line::Line;
 use std::io;
 use std::io::{Read, Stdin};
 
 /// How many bytes are read at a time.
-// The block stands in place, since memory stays fixed: std's BufReader takes one from the heap, and
-// with `bytes` a line of 50 MB took it three times as long.
+// The block stands in place, since memory stays fixed: std's BufReader takes one from the heap.
 const BLOCK: usize = 8_192;
 
 /// The bytes, of which those of the block from `at` up to `end` are still to come.
@@ -18,46 +14,35 @@ struct Bytes {
     block: [u8; BLOCK],
     at: usize,
     end: usize,
-    /// How many more may be read, by which a loop over them is proved to end. No input has as many
-    /// as at first.
-    left: u64,
 }
 
 impl Bytes {
-    /// The next byte, or none at the end of the input.
-    fn byte(&mut self) -> io::Result<Option<u8>>
-        ensures { self.new.left ≡ self.old.left }
-    {
+    /// Reads a block where nothing of the last is still to come.
+    fn fill(&mut self) -> io::Result<()> {
         if self.at >= self.end {
             self.end = self.stdin.read(&mut self.block)?;
             self.at = 0;
-            if self.end == 0 {
-                return Ok(None);
-            }
         }
-        let byte = self.block.get(self.at).copied();
-        self.at += 1;
-        Ok(byte)
+        Ok(())
     }
-}
 
-impl Iterator for Bytes {
-    type Item = io::Result<u8>;
+    /// What of the block is still to come.
+    fn rest(&self) -> &[u8] {
+        self.block.get(self.at..self.end).unwrap_or_default()
+    }
 
-    ghost remaining = { λ s. at_most s.left };
-
-    fn next(&mut self) -> Option<io::Result<u8>> {
-        self.left = self.left.checked_sub(1)?;
-        self.byte().transpose()
+    /// Goes past so many bytes of the block.
+    fn pass(&mut self, bytes: usize) {
+        self.at = self.at.saturating_add(bytes);
     }
 }
 
 /// The lines, one after the other, the last with or without its line end.
+// Each is read over the one before: with a line of its own for each, a blank line took some sixty times as long.
 #[derive(Drop)]
 pub struct Lines {
     bytes: Bytes,
-    /// How many more may be read, as for the bytes.
-    left: u64,
+    line: Line,
 }
 
 impl Lines {
@@ -68,35 +53,52 @@ impl Lines {
                 block: [0; BLOCK],
                 at: 0,
                 end: 0,
-                left: u64::MAX,
             },
-            left: u64::MAX,
+            line: Line::empty(),
         }
     }
-}
 
-/// The next line, or none at the end of the input.
-fn line(bytes: &mut Bytes) -> io::Result<Option<Line>> {
-    let mut line = Line::empty();
-    let mut begun = false;
-    for byte in bytes {
-        begun = true;
-        match byte? {
-            b'\n' => break,
-            b => line.take(b),
+    /// Reads on to the next line that has a field. Answers whether there was one before the end of the
+    /// input.
+    pub fn read(&mut self) -> io::Result<bool> {
+        for _ in 0..u64::MAX {
+            if !self.read_line()? {
+                return Ok(false);
+            }
+            if !self.line.is_empty() {
+                return Ok(true);
+            }
         }
+        Ok(false)
     }
-    line.end_field();
-    Ok(begun.then_some(line))
-}
 
-impl Iterator for Lines {
-    type Item = io::Result<Line>;
+    /// Reads the next line. Answers whether there was one before the end of the input.
+    fn read_line(&mut self) -> io::Result<bool> {
+        let mut begun = false;
+        self.line.clear();
+        // a loop is proved to end, and no line has as many blocks
+        for _ in 0..u64::MAX {
+            self.bytes.fill()?;
+            let rest = self.bytes.rest();
+            if rest.is_empty() {
+                break;
+            }
+            begun = true;
+            if let Some(end) = rest.iter().position(|b| *b == b'\n') {
+                self.line.take_all(&rest[..end]);
+                self.bytes.pass(end + 1);
+                break;
+            }
+            let all = rest.len();
+            self.line.take_all(rest);
+            self.bytes.pass(all);
+        }
+        self.line.end_field();
+        Ok(begun)
+    }
 
-    ghost remaining = { λ s. at_most s.left };
-
-    fn next(&mut self) -> Option<io::Result<Line>> {
-        self.left = self.left.checked_sub(1)?;
-        line(&mut self.bytes).transpose()
+    /// The line that was read last.
+    pub fn line(&self) -> &Line {
+        &self.line
     }
 }

@@ -34,8 +34,27 @@ impl Line {
         }
     }
 
+    /// Lets go of what was read.
+    pub fn clear(&mut self) {
+        self.word.clear();
+        self.fields.clear();
+        self.stray = false;
+        self.current = Field::default();
+        self.comment = false;
+    }
+
+    /// Bytes more, none of which ends the line. Those of a comment are passed over.
+    pub fn take_all(&mut self, bytes: &[u8]) {
+        for b in bytes {
+            if self.comment {
+                return;
+            }
+            self.take(*b);
+        }
+    }
+
     /// One byte more, which does not end the line.
-    pub fn take(&mut self, b: u8)
+    fn take(&mut self, b: u8)
         ensures fields { self.new.fields.items ≡ fields_after self.old b }
         ensures current { self.new.current ≡ current_after self.old b }
         ensures comment { self.new.comment ≡ (self.old.comment || b == 35) }
