@@ -1,5 +1,5 @@
 -- One call more. Assumes nothing.
-use Rattle.std.proofs.Common.{◌≡◌, ℕ, ◌+◌, ◌<◌, Bool, true, false, cond, ◌&&◌, List, length, get_or, take, set, Some, None, Option, sym, refl, ap, ◌∙◌, ⊎_elim, arith, get_or-set_other, get_or-set_same}
+use Rattle.std.proofs.Common.{◌≡◌, ℕ, ◌+◌, ◌<◌, Bool, true, false, cond, ◌&&◌, List, length, get_or, take, set, Some, None, fold, Option, sym, refl, ap, ◌∙◌, ⊎_elim, arith, get_or-set_other, get_or-set_same}
 use Rattle.std.proofs.lemmas.List.{get_or_default}
 use Rattle.std.proofs.lemmas.List.Sums.{fold_more}
 use Rattle.std.proofs.lemmas.Bool.{cases_eq}
@@ -19,7 +19,7 @@ use Rattle.run.specs.declared.call.DayState.TheVariants as state
 use Rattle.run.specs.declared.call.Entry.TheVariants.{Post, PostProfiled, Withdraw, Figure, Strike}
 use Rattle.run.specs.declared.call.Question.TheVariants.{AdjustedLoads, Rtaml, GenerationAndUfe, Shares}
 use Rattle.run.specs.Calls.{taken}
-use Rattle.run.specs.Courses.{Course, next, next_if, state_after, opened, course_of, written, reply, reply_if, moved_to, stepped, answer_to}
+use Rattle.run.specs.Courses.{Course, next, next_if, opened, written, reply, reply_if, moved_to, stepped, answer_to}
 use Rattle.run.specs.Holding.{setting_of_any, course_of_any, Steps}
 
 -- ---- lawfulness is told by the answers
@@ -48,22 +48,25 @@ state_more setting course c true = state_by setting course c (next course.state 
 
 -- ---- what the first calls of a list have come to
 
-pub record SoFar {B : Type 0} (meaning : Ghosts B) (setting : Setting) (calls : List Call) (answers : List Answer) (day : AnyDay B) (lawful : Bool) (i : ℕ) : Type 0 where
-  pub course : course_of_any meaning day ≡ course_of setting (take i calls)
+pub record SoFar {B : Type 0} (meaning : Ghosts B) (setting : Setting) (start : Course) (calls : List Call) (answers : List Answer) (day : AnyDay B) (lawful : Bool) (i : ℕ) : Type 0 where
+  pub course : course_of_any meaning day ≡ fold (stepped setting) start (take i calls)
   pub kept : setting_of_any meaning day ≡ setting
-  pub answered : (k : ℕ) (c : Call) (a : Answer) → k < i → get_or answers k a ≡ answer_to setting (course_of setting (take k calls)) (get_or calls k c)
-  pub state : state_after (take i calls) ≡ cond lawful (Some (course_of_any meaning day).state) None
+  pub answered : (k : ℕ) (c : Call) (a : Answer) → k < i → get_or answers k a ≡ answer_to setting (fold (stepped setting) start (take k calls)) (get_or calls k c)
+  pub state : fold next_if (Some start.state) (take i calls) ≡ cond lawful (Some (course_of_any meaning day).state) None
 
 module _ {B : Type 0} (meaning : Ghosts B) (calls : List Call) where
-  pub so_far_none : (setting : Setting) (answers : List Answer) (day : Day B (Open Initial)) → Holds meaning day setting blank_slate → SoFar meaning setting calls answers (OpenInitial day) true 0
-  so_far_none setting answers day h = record {
+  pub so_far_none : (answers : List Answer) (day : AnyDay B) → SoFar meaning (setting_of_any meaning day) (course_of_any meaning day) calls answers day true 0
+  so_far_none answers day = record { course = refl; kept = refl; answered = λ k c a h. absurd (omega arith); state = refl }
+
+  pub so_far_opened : (setting : Setting) (answers : List Answer) (day : Day B (Open Initial)) → Holds meaning day setting blank_slate → SoFar meaning setting opened calls answers (OpenInitial day) true 0
+  so_far_opened setting answers day h = record {
     course = ap (λ (x : Slate). record { state = state.OpenInitial; slate = x }) h.slate;
     kept = h.setting;
     answered = λ k c a h. absurd (omega arith);
     state = refl;
   }
 
-  module _ (setting : Setting) (answers : List Answer) (day : AnyDay B) (lawful : Bool) (i : ℕ) (d : Call) (so_far : SoFar meaning setting calls answers day lawful i) (here : i < length calls) (place : i < length answers) where
+  module _ (setting : Setting) (start : Course) (answers : List Answer) (day : AnyDay B) (lawful : Bool) (i : ℕ) (d : Call) (so_far : SoFar meaning setting start calls answers day lawful i) (here : i < length calls) (place : i < length answers) where
     abbrev c : Call
     c = get_or calls i d
 
@@ -71,7 +74,7 @@ module _ {B : Type 0} (meaning : Ghosts B) (calls : List Call) where
     before = course_of_any meaning day
 
     abbrev at : ℕ → Course
-    at k = course_of setting (take k calls)
+    at k = fold (stepped setting) start (take k calls)
 
     module _ (day' : AnyDay B) (answer : Answer) (step : Steps meaning day c answer day') where
       answer_by : answer ≡ answer_to setting before c
@@ -82,7 +85,7 @@ module _ {B : Type 0} (meaning : Ghosts B) (calls : List Call) where
 
       course_more : course_of_any meaning day' ≡ at (i + 1)
       course_more =
-          course_by ∙ ap (λ (x : Course). stepped setting x c) so_far.course ∙ sym (fold_more (stepped setting) opened calls i d here)
+          course_by ∙ ap (λ (x : Course). stepped setting x c) so_far.course ∙ sym (fold_more (stepped setting) start calls i d here)
 
       last : (d' : Call) → answer ≡ answer_to setting (at i) (get_or calls i d')
       last d' =
@@ -96,12 +99,12 @@ module _ {B : Type 0} (meaning : Ghosts B) (calls : List Call) where
           (λ (ne : k ≡ i → ⊥). get_or-set_other answers i k answer a ne ∙ so_far.answered k d' a (omega arith))
           (cases_eq k i)
 
-      pub so_far_more : SoFar meaning setting calls (set answers i answer) day' (lawful && taken answer) (i + 1)
+      pub so_far_more : SoFar meaning setting start calls (set answers i answer) day' (lawful && taken answer) (i + 1)
       so_far_more = record {
         course = course_more;
         kept = step.setting ∙ so_far.kept;
         answered = answered_more;
-        state = fold_more next_if (Some opened.state) calls i d here
+        state = fold_more next_if (Some start.state) calls i d here
             ∙ ap (λ (o : Option DayState). next_if o c) so_far.state
             ∙ state_more setting before c lawful
             ∙ ap (λ (x : Answer). cond (lawful && taken x) (Some (stepped setting before c).state) None) (sym answer_by)

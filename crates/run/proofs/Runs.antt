@@ -70,7 +70,7 @@ module _ (setting : Setting) (in_table : (s : ℕ) → ranged (get_or setting.ro
       shares_add_up = shares;
     }
 
-  module _ {B : Type 0} (meaning : Ghosts B) (answers : List Answer) (run : Run B) (many : length answers ≡ length calls) (so_far : SoFar meaning setting calls answers run.day run.lawful (length calls)) where
+  module _ {B : Type 0} (meaning : Ghosts B) (answers : List Answer) (run : Run B) (many : length answers ≡ length calls) (so_far : SoFar meaning setting opened calls answers run.day run.lawful (length calls)) where
     pub run_answered : Answered setting calls answers
     run_answered = answered answers many (λ i c a h. so_far.answered i c a h)
 
