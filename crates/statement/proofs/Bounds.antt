@@ -10,7 +10,7 @@ use Rattle.balance.proofs.Balanced.{pair_once}
 use Rattle.balance.proofs.Totals.{total_same, total_swap, total_pos, count_most}
 use Rattle.statement.specs.Statement.{some, lists_pair, pair_line, point_lines, pair_lines}
 use Rattle.statement.specs.Text.{line}
-use Rattle.statement.proofs.Pieces.{mag_most, numeral_most, numeral_plain, line_three, lines_count}
+use Rattle.statement.proofs.Pieces.{numeral_most, numeral_plain, line_three, lines_count}
 
 count_less : (f g : ℕ → ℕ) (n : ℕ) → ((j : ℕ) → j < n → f j ≤ g j) → count f n ≤ count g n
 unfolding count
@@ -76,7 +76,7 @@ module _ (rows : List (Option Row)) where
           ⊎_elim
           (λ (e : lists_pair rows q p ≡ true).
           let shown : pair_line rows loads q p ≡ line 65 (pos q ∷ pos p ∷ loads q p ∷ []) = cond-true (lists_pair rows q p) _ [] e in
-          omega (arith, ap length shown, line_three 65 (pos q) (pos p) (loads q p), numeral_plain 2 q (omega arith) (omega arith) (omega arith), numeral_plain 1 p (omega arith) (omega arith) (omega arith), numeral_most 9 (loads q p) (omega (arith, small q p hq hp, mag_most (loads q p))) (omega (arith, small q p hq hp, mag_most (loads q p))), counted (λ s. belongs (row s) q p) 18 64 e))
+          omega (arith, ap length shown, line_three 65 (pos q) (pos p) (loads q p), numeral_plain 2 q (omega arith) (omega arith), numeral_plain 1 p (omega arith) (omega arith), numeral_most 9 (loads q p) (omega arith) (omega (arith, small q p hq hp)), counted (λ s. belongs (row s) q p) 18 64 e))
           (λ (e : lists_pair rows q p ≡ false).
           let none : pair_line rows loads q p ≡ [] = cond-false (lists_pair rows q p) _ [] e in
           omega (arith, ap length none))

@@ -1,14 +1,16 @@
 -- Digits, fields and lines: their steps, and how many bytes they have. Assumes nothing.
 use Rattle.std.proofs.Common.{◌≡◌, ℕ, zero, suc, ◌+◌, ◌/◌, ◌%◌, ◌^◌, ◌<◌, ◌≤◌, eqb, List, [], ◌∷◌, ◌++◌, map, length, get_or, take, ℤ, pos, negsuc, nat_abs, sym, refl, ap, ◌∙◌, subst, ⊎_elim, append_assoc, add-one, arith, length-append, w64, SFits, to_z, of_z}
 use borrow.Author.Differences.{ints, abs_is}
+use lib.ListN.{length-map}
 use lib.Signed.{mag}
 use Rattle.std.specs.Int.Digits.{digits_with_fuel, digits_of}
 use Rattle.std.specs.Fmt.{decimal, signed_decimal}
-use Rattle.std.proofs.lemmas.Fmt.{decimal_digit, decimal-digits_of, length-decimal-le, length_signed_le}
+use Rattle.std.proofs.lemmas.Fmt.{decimal_digit, decimal-digits_of}
 use Rattle.std.proofs.lemmas.Int.{to_z-of_z}
+use Rattle.std.proofs.lemmas.Int.Digits.{length-digits_of-le}
 use Rattle.std.proofs.Math.Seq.{take-suc}
 use Rattle.std.proofs.lemmas.List.{map-append, take_all, append-nil}
-use Rattle.std.proofs.lemmas.Bool.{cond-true, cond-false, cases_eq, eq-eqb, ne_eqb}
+use Rattle.std.proofs.lemmas.Bool.{cond-true, cond-false, cond_both, cases_eq, eq-eqb, ne_eqb}
 use Rattle.balance.specs.Totals.{count}
 use Rattle.statement.specs.Text.{places_in, places, unsigned, numeral, fields, line, lines}
 
@@ -54,20 +56,28 @@ numeral_printed z fits =
     ap signed_decimal (to_z-of_z w64 z fits) ∙ signed_printed z (omega (arith, ints, abs_is z, fits.sfits))
 
 -- how many bytes a number has, and one that is not below zero
-pub mag_most : (z : ℤ) → mag z ≤ nat_abs z
-mag_most (pos n) = omega arith
-mag_most (negsuc n) = omega arith
+places_most : (k n : ℕ) → n < 10 ^ k → length (places n) ≤ k
+places_most k n h =
+    omega (arith, ap length (places_are n), length-map (digits_of 10 n) (λ d. 48 + d), length-digits_of-le 10 k n (omega arith) h)
 
-pub numeral_most : (k : ℕ) (z : ℤ) → mag z + 1 < 10 ^ k → mag z < 2 ^ 63 → length (numeral z) ≤ k + 1
-numeral_most k z h fits = omega (arith, ap length (signed_printed z (small z fits)), length_signed_le k z h fits)
-  where
-    small : (y : ℤ) → mag y < 2 ^ 63 → nat_abs y < 2 ^ 64
-    small (pos n) f = omega arith
-    small (negsuc n) f = omega arith
+unsigned_most : (k n : ℕ) → 0 < k → n < 10 ^ k → length (unsigned n) ≤ k
+unfolding unsigned
+unsigned_most k n some h =
+    cond_both (eqb n 0) (48 ∷ []) (places n) (λ xs. length xs ≤ k) (λ _. omega arith) (λ _. places_most k n h)
 
-pub numeral_plain : (k n : ℕ) → 0 < k → n < 10 ^ k → n < 2 ^ 63 → length (numeral (pos n)) ≤ k
+pub numeral_most : (k : ℕ) (z : ℤ) → 0 < k → nat_abs z < 10 ^ k → length (numeral z) ≤ k + 1
 unfolding numeral
-numeral_plain k n some h fits = omega (arith, ap length (unsigned_printed n (omega arith)), length-decimal-le k n some h (omega arith))
+numeral_most k (pos n) some h = omega (arith, unsigned_most k n some h)
+numeral_most k (negsuc n) some h = omega (arith, unsigned_most k (suc n) some h)
+
+pub numeral_plain : (k n : ℕ) → 0 < k → n < 10 ^ k → length (numeral (pos n)) ≤ k
+unfolding numeral
+numeral_plain k n some h = unsigned_most k n some h
+
+-- a signed number of the machine is not far from zero
+pub abs_most : (z : ℤ) → nat_abs z ≤ mag z + 1
+abs_most (pos n) = omega arith
+abs_most (negsuc n) = omega arith
 
 -- ---- lines
 fields_append : (ms ns : List ℤ) → fields (ms ++ ns) ≡ fields ms ++ fields ns

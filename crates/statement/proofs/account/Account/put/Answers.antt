@@ -6,14 +6,14 @@ use Rattle.statement.specs.Writing.{loads_of}
 use Rattle.statement.proofs.Appending.{appends_then, appends_same, left}
 use Rattle.statement.proofs.Bounds.{pairs_most}
 use Rattle.statement.proofs.Passing.{passed, two_passed}
-use Rattle.statement.proofs.Pieces.{line_two, mag_most, numeral_most}
+use Rattle.statement.proofs.Pieces.{line_two, numeral_most}
 use Rattle.statement.proofs.account.Account.put.Goals as goal
 
 -- the first line as its numbers are handed over, and its most bytes
 head : {a b : ℤ} (g u : ℤ) → nat_abs g ≤ 160000000 → nat_abs u ≤ 416000000 → a ≡ g → b ≡ u → SFits w64 a → SFits w64 b → (line 71 (passed a ∷ passed b ∷ []) ≡ line 71 (g ∷ u ∷ [])) × (length (line 71 (g ∷ u ∷ [])) ≤ 24)
 head {a} {b} g u hg hu ea eb fa fb = (
   ap (line 71) (two_passed a b g u fa fb ea eb),
-  omega (arith, line_two 71 g u, numeral_most 9 g (omega (arith, mag_most g)) (omega (arith, mag_most g)), numeral_most 9 u (omega (arith, mag_most u)) (omega (arith, mag_most u))),
+  omega (arith, line_two 71 g u, numeral_most 9 g (omega arith) (omega arith), numeral_most 9 u (omega arith) (omega arith)),
 )
 
 pub put_line-requires : goal.put_line-requires

@@ -8,7 +8,7 @@ use Rattle.statement.specs.Text.{line, lines}
 use Rattle.statement.specs.Writing.{Appends}
 use Rattle.statement.proofs.Appending.{appends_none, appends_same, appends_line, kept}
 use Rattle.statement.proofs.Passing.{passed}
-use Rattle.statement.proofs.Pieces.{line_two, numeral_most, numeral_plain}
+use Rattle.statement.proofs.Pieces.{abs_most, line_two, numeral_most, numeral_plain}
 use Rattle.statement.proofs.account.Account.put_shares.Goals as goal
 use Rattle.statement.proofs.account.Account.put_shares.Goals.{then-has_qse, else-has_qse}
 
@@ -18,7 +18,7 @@ loop-qse-init c = record { lines_below = appends_none c.args.page.now; most = om
 
 handed_most : (qse : ℕ) (z : ℤ) → qse < 16 → SFits w64 z → length (line 83 (pos qse ∷ z ∷ [])) ≤ 26
 handed_most qse z h fits =
-    omega (arith, line_two 83 (pos qse) z, numeral_plain 2 qse (omega arith) (omega arith) (omega arith), numeral_most 19 z (omega (arith, fits.sfits)) fits.sfits)
+    omega (arith, line_two 83 (pos qse) z, numeral_plain 2 qse (omega arith) (omega arith), numeral_most 19 z (omega arith) (omega (arith, abs_most z, fits.sfits)))
 
 -- the line of a QSE as its numbers are handed over, and its most bytes
 handed : (rows : List (Option Row)) (shares : List ℤ) (qse : ℕ) → qse < 16 → SFits w64 (get_or shares qse (pos 0)) → true ≡ lists_qse rows qse → (line 83 (to_z w64 qse ∷ passed (get_or shares qse (pos 0)) ∷ []) ≡ share_line rows shares qse) × (length (share_line rows shares qse) ≤ 26)

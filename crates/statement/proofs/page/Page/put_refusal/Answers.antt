@@ -14,4 +14,4 @@ put_line-requires c =
     let f2 : SFits w64 c.from-2.result = search rules in
     let f3 : SFits w64 c.from-3.result = search rules in
     let e = ap (line 82) (three_passed c.from.result c.from-2.result c.from-3.result (pos a.number) (pos a.subject) (pos a.height) f1 f2 f3 c.from.ensures c.from-2.ensures c.from-3.ensures) in
-    omega (arith, c.requires, ap length e, line_three 82 (pos a.number) (pos a.subject) (pos a.height), numeral_plain 3 a.number (omega arith) (omega (arith, number.fits)) (omega (arith, number.fits)), numeral_plain 3 a.subject (omega arith) (omega (arith, subject.fits)) (omega (arith, subject.fits)), numeral_plain 3 a.height (omega arith) (omega (arith, height.fits)) (omega (arith, height.fits)))
+    omega (arith, c.requires, ap length e, line_three 82 (pos a.number) (pos a.subject) (pos a.height), numeral_plain 3 a.number (omega arith) (omega (arith, number.fits)), numeral_plain 3 a.subject (omega arith) (omega (arith, subject.fits)), numeral_plain 3 a.height (omega arith) (omega (arith, height.fits)))
