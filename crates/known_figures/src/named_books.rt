@@ -1,6 +1,8 @@
 // Books that the code names, where all else is generic in its book: the checker has to make a type of each.
 use crate::rolls::row;
-use balance::{Figures, QuarterHour, balance_of, generation_and_ufe};
+use balance::{
+    Figures, QuarterHour, adjusted_loads, balance_of, generation_and_ufe, rtaml, shares,
+};
 use book::LoadBook;
 use grid::Grid;
 use losses::{Distribution, Transmission};
@@ -51,6 +53,7 @@ fn a_grid_under_distribution(rt: HostRuntime) -> Result<(), Fail> {
     book.post(0, 0, 1_000)?;
     assert_eq!(rt; book.load(0, 0)?, 1_050u32);
     assert_eq!(rt; balance_of(draft.roll(), &book, &figures, 0)?.ufe(), 50i64);
+    assert_eq!(rt; rtaml(draft.roll(), &book, &figures, 0, 1, 0)?, 1_100i64);
     Ok(())
 }
 
@@ -66,5 +69,22 @@ fn a_slip_book_under_transmission(rt: HostRuntime) -> Result<(), Fail> {
         generation_and_ufe(draft.roll(), &book, &figures, 0)?.ufe,
         80i64
     );
+    Ok(())
+}
+
+#[test]
+fn a_slip_book_under_distribution(rt: HostRuntime) -> Result<(), Fail> {
+    let (draft, figures) = (draft()?, figures()?);
+    let mut slips = [Slip::default(); 1];
+    let mut book = Distribution::over(SlipBook::new(&mut slips));
+    book.take_over_codes(draft.roll());
+    book.set_factor(b'A', 0, 50_000)?;
+    book.post(0, 0, 1_000)?;
+    let mut loads = [7i64; 64];
+    adjusted_loads(draft.roll(), &book, &figures, 0, &mut loads)?;
+    assert!(rt; &loads[..2] == &[1_100i64, 0][..]);
+    let mut list = [7i64; 16];
+    shares(draft.roll(), &book, &figures, 0, &mut list)?;
+    assert!(rt; &list[..2] == &[0i64, 1_000_000_000][..]);
     Ok(())
 }
